@@ -1,0 +1,4 @@
+pub mod Whole
+pub mod Residues
+pub mod Halves
+pub mod Thirds

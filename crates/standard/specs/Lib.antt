@@ -1,0 +1,2 @@
+pub mod Standard
+pub mod Domain
