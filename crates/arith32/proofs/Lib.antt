@@ -2,3 +2,4 @@ pub mod Whole
 pub mod Residues
 pub mod Halves
 pub mod Thirds
+pub mod Ends

@@ -3,6 +3,7 @@
 // Total: no function asks anything of its caller but the private `narrow`.
 ghost use mathlib.Core.Path.{_≡_};
 ghost use Prim.Native.Nat.{_<_};
+ghost use lib.IntN.{pos};
 ghost use lib.Signed.{mag};
 ghost use Rattle.arith32.specs.Arith as Arith;
 ghost use Rattle.arith32.specs.Arith.{_⊕_, _⊖_};
@@ -61,4 +62,11 @@ pub fn lowest_bit(v: i32) -> i32
     ensures { λ r. ⌜ r ≡ Arith.lowestBit v ⌝ }
 {
     v & 1
+}
+
+// The sample with these 32 bits.
+pub fn from_bits(bits: u32) -> i32
+    ensures { λ r. ⌜ r ≡ Arith.wrap (pos bits) ⌝ }
+{
+    narrow(bits as i64)
 }

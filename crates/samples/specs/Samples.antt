@@ -1,0 +1,15 @@
+-- Samples as files store them: four bytes each, least byte first. Definitions only.
+use mathlib.Core.List.{List}
+use Prim.Native.Nat.{ℕ, _+_, _*_}
+use lib.IntN.{ℤ, pos}
+use lib.ListN.{getD}
+use Rattle.arith32.specs.Arith.{wrap}
+
+-- a byte of a list; past its end 0
+abbrev pub byteAt : List ℕ → ℕ → ℕ
+byteAt bytes at = getD bytes at 0
+
+-- the sample whose four bytes start at `at`
+unfoldable pub sampleAt : List ℕ → ℕ → ℤ
+sampleAt bytes at =
+    wrap (pos (byteAt bytes at + 0x100 * byteAt bytes (at + 1) + 0x1_0000 * byteAt bytes (at + 2) + 0x100_0000 * byteAt bytes (at + 3)))
