@@ -8,10 +8,10 @@ use mathlib.Core.Logic.{_⊎_, inl, inr}
 use Prim.Native.Nat.{ℕ, zero, suc, _+_, _-_, _*_, _/_, _%_, _<_, _≤_}
 use native.Mathlib.Omega.{arith}
 use native.Mathlib.Nat.{div-add-mod', mod-lt, zero-div, suc-mul}
-use borrow.Author.Tests.{ltb-true, ltb-false, lt-ltb, le-ltb}
-use lib.Dec.{T, ltb, ltb→lt, nltb→le}
+use borrow.Author.Tests.{ltb-true, ltb-false, lt-ltb, le-ltb, le-leb, lt-leb}
+use lib.Dec.{T, ltb, ltb→lt, nltb→le, leb→le}
 use lib.IntN.{ℤ, pos, negsuc, negℤ, subℕ, _+ℤ_, _-ℤ_, _*ℤ_}
-use lib.Signed.{mag, ltZ, shrZ, quotZ, mag-shr}
+use lib.Signed.{_≤ℤ_, mag, leZ, ltZ, shrZ, quotZ, mag-shr, leZ-yes}
 use mir.Syntax.{Width, w32, w64}
 use mir.Val.{SFits, toZ, ofZ}
 use mir.Facts.{sfits-widen}
@@ -128,6 +128,39 @@ pub not-below-zero : (z : ℤ) → ltZ z (pos 0) ≡ false → below z ≡ 0
 unfolding above below
 not-below-zero (pos n) e = refl
 not-below-zero (negsuc n) e = let z : _≡_ {A = ℕ} 0 1 = cc in absurd (omega arith)
+
+-- ---- a ≤ b, read as a fact, and the test answered by one
+pub at-most : (a b : ℤ) → a ≤ℤ b → above a + below b ≤ above b + below a
+unfolding above below
+at-most (pos a) (pos b) h = omega (arith, leb→le a b (h .le))
+at-most (pos a) (negsuc b) h = absurd (h .le)
+at-most (negsuc a) (pos b) h = omega arith
+at-most (negsuc a) (negsuc b) h = omega (arith, leb→le b a (h .le))
+
+pub is-at-most : (a b : ℤ) → above a + below b ≤ above b + below a → leZ a b ≡ true
+unfolding above below
+is-at-most (pos a) (pos b) h = le-leb a b (omega arith)
+is-at-most (pos a) (negsuc b) h = absurd (omega arith)
+is-at-most (negsuc a) (pos b) h = refl
+is-at-most (negsuc a) (negsuc b) h = le-leb b a (omega arith)
+
+pub is-not-at-most : (a b : ℤ) → above b + below a < above a + below b → leZ a b ≡ false
+unfolding above below
+is-not-at-most (pos a) (pos b) h = lt-leb a b (omega arith)
+is-not-at-most (pos a) (negsuc b) h = refl
+is-not-at-most (negsuc a) (pos b) h = absurd (omega arith)
+is-not-at-most (negsuc a) (negsuc b) h = lt-leb b a (omega arith)
+
+pub ordered : (a b : ℤ) → above a + below b ≤ above b + below a → a ≤ℤ b
+ordered a b h = leZ-yes (rw (is-at-most a b h) tt)
+
+-- two tests < agree where b - a is d - c
+pub same-test : (a b c d : ℤ) → above b + below a + (above c + below d) ≡ above a + below b + (above d + below c) → ltZ a b ≡ ltZ c d
+same-test a b c d h = go (ltZ c d) refl
+  where
+    go : (t : Bool) → ltZ c d ≡ t → ltZ a b ≡ t
+    go true e = is-less a b (omega (arith, less c d e))
+    go false e = is-not-less a b (omega (arith, not-less c d e))
 
 -- ---- ranges of machine integers
 pub range32 : (z : ℤ) → SFits w32 z → (above z < 2147483648) × (below z ≤ 2147483648)
