@@ -61,12 +61,25 @@ fn monotone(x: i32, y: i32, z: i32) -> i32
     negated_if(z, clamp_after(wrapping_abs(y), v))
 }
 
+// `opposite` by branches: cheaper where the answer is branched on.
+fn turns(x: i32, y: i32) -> bool
+    ensures { λ r. ⌜ r ≡ Tend.opposite x y ⌝ }
+{
+    if x < 0 {
+        0 < y
+    } else if 0 < x {
+        y < 0
+    } else {
+        false
+    }
+}
+
 pub fn smooth_tendency(a: i32, b: i32, c: i32) -> i32
     ensures { λ r. ⌜ r ≡ Tend.tendency a b c ⌝ }
 {
     let x = wrapping_sub(a, b);
     let y = wrapping_sub(b, c);
-    if opposite(x, y) {
+    if turns(x, y) {
         return 0;
     }
     monotone(x, y, wrapping_sub(a, c))

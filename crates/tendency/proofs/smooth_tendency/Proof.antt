@@ -14,11 +14,11 @@ wrapping-sub-requires c κs = search needs
 wrapping-sub-requires-2 : tie.Need-wrapping-sub-requires-2
 wrapping-sub-requires-2 c κs = search needs
 
-opposite-requires : tie.Need-opposite-requires
-opposite-requires c κs = search needs
+turns-requires : tie.Need-turns-requires
+turns-requires c κs = search needs
 
--- the differences that both returns start from, and what `opposite` says of them
-module _ (c : tie.After-opposite) where
+-- the differences that both returns start from, and what `turns` says of them
+module _ (c : tie.After-turns) where
   difference-x : c .before .before .wrapping-sub .result ≡ c .before .before .before .args .a ⊖ c .before .before .before .args .b
   difference-x =
       let s = c .before .before .before in
@@ -30,12 +30,12 @@ module _ (c : tie.After-opposite) where
       rw (toZ-ofZ (s .fits .b), toZ-ofZ (s .fits .c)) at (c .before .wrapping-sub2 .ensures)
 
   turn :
-      c .opposite .result
+      c .turns .result
       ≡ opposite (c .before .before .before .args .a ⊖ c .before .before .before .args .b) (c .before .before .before .args .b ⊖ c .before .before .before .args .c)
   turn =
       let x = c .before .before .wrapping-sub in
       let y = c .before .wrapping-sub2 in
-      rw (back32 (x .result) (x .ok), back32 (y .result) (y .ok), difference-x, difference-y) at (c .opposite .ensures)
+      rw (back32 (x .result) (x .ok), back32 (y .result) (y .ok), difference-x, difference-y) at (c .turns .ensures)
 
 returns : tie.Need-returns
 unfolding tendency
@@ -65,7 +65,7 @@ smooth-tendency-spec =
     (tie.spec
     wrapping-sub-requires
     wrapping-sub-requires-2
-    opposite-requires
+    turns-requires
     returns
     wrapping-sub-requires-3
     monotone-requires
