@@ -1,0 +1,24 @@
+-- A channel (document 01, "The entry"): "each has width and height (0 to 65,535) and is either meta or has two shifts (0 to 30)".
+-- Definitions only.
+use mathlib.Core.Bool.{Bool, _&&_, _||_}
+use Prim.Native.Nat.{ℕ, _*_}
+use lib.Dec.{eqb, leb}
+use Rattle.channel.specs.declared.Channel.{Channel}
+
+-- the largest shift, and the shift that marks a meta channel in both directions
+abbrev pub maxShift : ℕ
+maxShift = 30
+
+abbrev pub metaShift : ℕ
+metaShift = 255
+
+-- "both shifts 255 mean meta"
+unfoldable pub isMeta : Channel → Bool
+isMeta c = eqb (c .hshift) metaShift && eqb (c .vshift) metaShift
+
+-- question 4: "Are shifts 0 to 30 or both 255"
+unfoldable pub shiftsAllowed : Channel → Bool
+shiftsAllowed c = isMeta c || (leb (c .hshift) maxShift && leb (c .vshift) maxShift)
+
+unfoldable pub samples : Channel → ℕ
+samples c = c .width * c .height

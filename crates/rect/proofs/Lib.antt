@@ -1,0 +1,4 @@
+pub mod Allowed
+pub mod Tiles
+pub mod Chosen
+pub mod Rows

@@ -1,0 +1,29 @@
+-- `start_in` meets its contract, by cases on the origin. Assumes nothing.
+use borrow.Author.Needs.{needs}
+use Rattle.rect.proofs.start_in.Statement.{statement}
+use Rattle.rect.proofs.start_in.Tie as tie
+
+enum-told : tie.Need-enum-told
+enum-told c = search needs
+
+enum-told-2 : tie.Need-enum-told-2
+enum-told-2 c = search needs
+
+enum-told-3 : tie.Need-enum-told-3
+enum-told-3 c = search needs
+
+rem-result : tie.Need-rem-result
+rem-result c = search needs
+
+returns : tie.Need-returns
+returns c = search needs
+
+returns-2 : tie.Need-returns-2
+returns-2 c = search needs
+
+returns-3 : tie.Need-returns-3
+returns-3 c = rw (c .enum-told3 .given .1)
+
+pub start-in-spec : {M : Type 1} → statement M
+start-in-spec =
+    tie.close (tie.spec enum-told enum-told-2 enum-told-3 rem-result returns returns-2 returns-3)

@@ -1,0 +1,86 @@
+// Replays rectangle calls (tests/rects.py made `stdin`, of the published
+// Rust's answers and of document 01's rule). Prints how many there were and
+// how many came out right.
+use channel::Channel;
+use libc::STDIN_FILENO;
+use libc::STDOUT_FILENO;
+use rect::GridRect;
+use samples::sample_at;
+
+// A case of `stdin`: the channel's width, height and two shifts, the output
+// kind, the stored kind, the group dimension and the position, then the
+// answer's five numbers, four bytes each.
+const CASE: usize = 56;
+
+// The number at `at`; one that is negative as a sample is 0.
+fn number_at(bytes: &[u8], at: usize) -> u32 {
+    let z = sample_at(bytes, at);
+    if z < 0 { 0 } else { z as u32 }
+}
+
+// The number at `at` as 16 bits; a larger one is the largest.
+fn side_at(bytes: &[u8], at: usize) -> u16 {
+    let n = number_at(bytes, at);
+    if n < 0x1_0000 { n as u16 } else { 0xFFFF }
+}
+
+// The number at `at` as 8 bits; a larger one is the largest.
+fn byte_at(bytes: &[u8], at: usize) -> u8 {
+    let n = number_at(bytes, at);
+    if n < 0x100 { n as u8 } else { 0xFF }
+}
+
+// Whether the five numbers from `at` on are those of `r`.
+fn is_at(bytes: &[u8], at: usize, r: GridRect) -> bool {
+    if bytes.len() < at {
+        return false;
+    }
+    (r.answer == number_at(bytes, at))
+        & (r.x == number_at(bytes, at + 4))
+        & (r.y == number_at(bytes, at + 8))
+        & (r.width == number_at(bytes, at + 12))
+        & (r.height == number_at(bytes, at + 16))
+}
+
+// Whether the case that starts at `at` comes out right.
+fn case_agrees(bytes: &[u8], at: usize) -> bool {
+    if bytes.len() < at {
+        return false;
+    }
+    let channel = Channel {
+        width: side_at(bytes, at),
+        height: side_at(bytes, at + 4),
+        hshift: byte_at(bytes, at + 8),
+        vshift: byte_at(bytes, at + 12),
+    };
+    let r = rect::get_grid_rect(
+        channel,
+        byte_at(bytes, at + 16),
+        byte_at(bytes, at + 20),
+        number_at(bytes, at + 24),
+        side_at(bytes, at + 28),
+        side_at(bytes, at + 32),
+    );
+    is_at(bytes, at + 36, r)
+}
+
+fn cases_agree(bytes: &[u8]) -> u64 {
+    let mut right = 0u64;
+    for i in 0..bytes.len() / CASE {
+        if case_agrees(bytes, i * CASE) {
+            right += 1;
+        }
+    }
+    right
+}
+
+fn main() {
+    let mut buffer = [0u8; 524288];
+    let n = io::read_full(STDIN_FILENO, &mut buffer);
+    let bytes = &buffer[..n];
+    io::write_all(STDOUT_FILENO, b"rects ");
+    io::print_decimal(STDOUT_FILENO, (bytes.len() / CASE) as u64);
+    io::write_all(STDOUT_FILENO, b" right ");
+    io::print_decimal(STDOUT_FILENO, cases_agree(bytes));
+    io::write_all(STDOUT_FILENO, b"\n");
+}
