@@ -1,7 +1,8 @@
--- ISO/IEC 18181-1, Modular Squeeze: the tendency and the inverse step of one pair, over whole numbers without a bound.
+-- ISO/IEC 18181-1, Modular Squeeze: the tendency and the inverse step along a line, over whole numbers without a bound.
 -- Written from the standard's formulas alone; nothing here is defined by document 01's 32-bit arithmetic. Definitions only.
 use mathlib.Core.Bool.{cond, _&&_}
-use Prim.Native.Nat.{_%_}
+use Prim.Native.Nat.{ℕ, zero, suc, _+_, _/_, _%_}
+use lib.Dec.{eqb, ltb}
 use lib.IntN.{ℤ, pos, natAbs, _+ℤ_, _-ℤ_, _*ℤ_}
 use lib.Signed.{leZ, ltZ, quotZ}
 
@@ -54,3 +55,21 @@ first avg res next before = avg +ℤ (difference avg res next before Idiv pos 2)
 
 unfoldable pub second : ℤ → ℤ → ℤ → ℤ → ℤ
 second avg res next before = first avg res next before -ℤ difference avg res next before
+
+-- "Inverse step along a line with averages a[0..m) and residuals r[0..n)": "next = a[i + 1] if i + 1 < m, else a[i]"
+unfoldable pub next : (ℕ → ℤ) → ℕ → ℕ → ℤ
+next a m i = cond (ltb (i + 1) m) (a (i + 1)) (a i)
+
+-- "before = out[2i - 1] if i > 0, else a[0]"
+unfoldable pub before : (ℕ → ℤ) → (ℕ → ℤ) → ℕ → ℕ → ℤ
+before a r m zero = a 0
+before a r m (suc i) = second (a i) (r i) (next a m i) (before a r m i)
+
+-- "out[0..m + n)", whose last is a[n] if m = n + 1
+unfoldable pub out : (ℕ → ℤ) → (ℕ → ℤ) → ℕ → ℕ → ℕ → ℤ
+out a r m n j =
+    cond (ltb (j / 2) n)
+    (cond (eqb (j % 2) 0)
+    (first (a (j / 2)) (r (j / 2)) (next a m (j / 2)) (before a r m (j / 2)))
+    (second (a (j / 2)) (r (j / 2)) (next a m (j / 2)) (before a r m (j / 2))))
+    (a (j / 2))

@@ -1,0 +1,5 @@
+pub mod Line
+pub mod Uncut
+pub mod Forward
+pub mod Plain
+pub mod Table
