@@ -1,0 +1,4 @@
+pub mod Lanes
+pub mod Pairs
+pub mod Call
+pub mod Cut

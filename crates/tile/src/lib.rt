@@ -1,0 +1,151 @@
+// The tile call (document 01, "Tiles"; the Rust's `do_hsqueeze_step` and
+// `do_vsqueeze_step`): a rectangle of samples from its averages and residuals,
+// with a neighbour line on either side or none. Total: questions 5, 12 and 14
+// in that order, each refusal with its number and the output slice untouched.
+mod columns;
+mod lanes;
+mod rows;
+
+ghost use mathlib.Core.Path.{_≡_};
+ghost use Prim.Native.Nat.{_+_, _*_};
+ghost use lib.ListN.{length};
+ghost use Rattle.line.specs.Uncut.{Fitting, uncut};
+ghost use Rattle.tile.specs.Call as Call;
+
+// Width and height of a rectangle.
+pub struct Sides {
+    pub width: usize,
+    pub height: usize,
+}
+
+impl Sides {
+    pub const MAX_SAMPLES: usize = 16_777_216;
+
+    pub const MAX_SIDE: usize = 65_535;
+}
+
+// Question 5 of one rectangle. The product is not formed: it may not fit.
+fn area_allowed(s: Sides) -> bool
+    ensures { λ r. ⌜ r ≡ Call.areaAllowed s ⌝ }
+{
+    let w = s.width;
+    if w == 0 {
+        return true;
+    }
+    s.height <= Sides::MAX_SAMPLES / w
+}
+
+fn along(horizontal: bool, s: Sides) -> usize
+    ensures { λ r. ⌜ r ≡ Call.along horizontal s ⌝ }
+{
+    if horizontal { s.width } else { s.height }
+}
+
+fn across(horizontal: bool, s: Sides) -> usize
+    ensures { λ r. ⌜ r ≡ Call.across horizontal s ⌝ }
+{
+    if horizontal { s.height } else { s.width }
+}
+
+fn sides_small(s: Sides) -> bool
+    ensures { λ r. ⌜ r ≡ Call.sidesSmall s ⌝ }
+{
+    (s.width <= Sides::MAX_SIDE) & (s.height <= Sides::MAX_SIDE)
+}
+
+fn line_fits(crossing: usize, s: &[i32]) -> bool
+    ensures { λ r. ⌜ r ≡ Call.lineFits crossing (now (s .entry)) ⌝ }
+{
+    (s.len() == 0) | (s.len() == crossing)
+}
+
+// Question 12, without the outer lines.
+fn sides_fit(horizontal: bool, a: Sides, r: Sides, o: Sides) -> bool
+    ensures { λ f. ⌜ f ≡ Call.sidesFit horizontal a r o ⌝ }
+{
+    if !(sides_small(a) & (sides_small(r) & sides_small(o))) {
+        return false;
+    }
+    let m = along(horizontal, a);
+    let n = along(horizontal, r);
+    let crossing = across(horizontal, a);
+    ((m == n) | (m == n + 1))
+        & ((along(horizontal, o) == m + n)
+            & ((across(horizontal, r) == crossing) & (across(horizontal, o) == crossing)))
+}
+
+// The squeeze's output from its averages and residuals, whose sizes fit.
+fn unsqueeze<'a>(
+    horizontal: bool,
+    a: Sides,
+    r: Sides,
+    avg: &'a [i32],
+    res: &[i32],
+    next: &'a [i32],
+    prev: &'a [i32],
+    out: &mut [i32],
+)
+    requires { ⌜ Fitting (Call.squeezeOn horizontal a r (now avg) (now res) (now next) (now prev)) × (length (now out) ≡ Call.across horizontal a * (Call.along horizontal a + Call.along horizontal r)) ⌝ }
+    ensures { λ _. ⌜ now (out .exit) ≡ uncut (Call.squeezeOn horizontal a r (now (avg .entry)) (now (res .entry)) (now (next .entry)) (now (prev .entry))) ⌝ }
+{
+    if out.len() == 0 {
+        return;
+    }
+    let aw = a.width;
+    let ah = a.height;
+    let rw = r.width;
+    let rh = r.height;
+    if horizontal {
+        rows::unsqueeze_rows(avg, res, next, prev, aw, rw, ah, out);
+    } else {
+        columns::unsqueeze_columns(avg, res, next, prev, ah, rh, aw, out);
+    }
+}
+
+// A tile of aw by ah averages, rw by rh residuals and ow by oh samples of
+// output, horizontal unless the number is 0. `next` and `prev` are the next
+// average line and the previous output line, or empty. The answer is 0, or the
+// refusal's number.
+#[no_mangle]
+pub extern "C" fn squeeze_tile<'a>(
+    horizontal: u32,
+    aw: usize,
+    ah: usize,
+    rw: usize,
+    rh: usize,
+    ow: usize,
+    oh: usize,
+    avg: &'a [i32],
+    res: &[i32],
+    next: &'a [i32],
+    prev: &'a [i32],
+    out: &mut [i32],
+) -> u32
+    ensures { λ n. ⌜ (n ≡ Call.answer (Call.call horizontal aw ah rw rh ow oh (now (avg .entry)) (now (res .entry)) (now (next .entry)) (now (prev .entry)) (now (out .entry)))) × (now (out .exit) ≡ Call.after (Call.call horizontal aw ah rw rh ow oh (now (avg .entry)) (now (res .entry)) (now (next .entry)) (now (prev .entry)) (now (out .entry)))) ⌝ }
+{
+    let a = Sides {
+        width: aw,
+        height: ah,
+    };
+    let r = Sides {
+        width: rw,
+        height: rh,
+    };
+    let o = Sides {
+        width: ow,
+        height: oh,
+    };
+    if !(area_allowed(a) & (area_allowed(r) & area_allowed(o))) {
+        return 5;
+    }
+    let h = horizontal != 0;
+    let crossing = across(h, a);
+    if !(sides_fit(h, a, r, o) & (line_fits(crossing, next) & line_fits(crossing, prev))) {
+        return 13;
+    }
+    if !((avg.len() == aw * ah) & ((res.len() == rw * rh) & (out.len() == ow * oh))) {
+        return 12;
+    }
+    unsqueeze(h, a, r, avg, res, next, prev, out);
+    0
+}

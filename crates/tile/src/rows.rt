@@ -1,0 +1,204 @@
+// Horizontal: lines are rows. Eight rows at a time go through the block, the
+// rest singly. What is asked of the callers here is met by `squeeze_tile`, which
+// has put questions 5, 12 and 14.
+ghost use mathlib.Core.Path.{_≡_};
+ghost use mathlib.Core.Bool.{true, cond};
+ghost use mathlib.Core.List.{_++_};
+ghost use mathlib.Core.Logic.{_⊎_};
+ghost use Prim.Native.Nat.{ℕ, _+_, _-_, _*_, _<_, _≤_};
+ghost use lib.Dec.{ltb};
+ghost use lib.IntN.{pos};
+ghost use lib.ListN.{length, getD, take, drop};
+ghost use Rattle.line.specs.Line.{orElse};
+ghost use Rattle.line.specs.Uncut.{squeeze, uncut, Fitting, outer};
+use crate::lanes::load_lanes;
+use crate::lanes::store_lanes;
+
+// The eight samples of an outer line, or what stands in for them.
+fn outer_lanes(line: &[i32], other: [i32; 8]) -> [i32; 8]
+    requires { ⌜ (length (now line) ≡ 0) ⊎ (length (now line) ≡ 8) ⌝ }
+    ensures { λ r. ⌜ ((k : ℕ) → k < 8 → getD r k (pos 0) ≡ orElse (outer (now (line .entry)) k) (getD other k (pos 0))) ⌝ }
+{
+    if line.len() == 0 {
+        other
+    } else {
+        load_lanes(line, 0, 1)
+    }
+}
+
+// The next averages of pair i in eight rows of m averages, whose own are given.
+fn next_lanes(avg: &[i32], next: &[i32], i: usize, m: usize, own: [i32; 8]) -> [i32; 8]
+    requires { ⌜ (i < m) × (length (now avg) ≡ 8 * m) × ((length (now next) ≡ 0) ⊎ (length (now next) ≡ 8)) ⌝ }
+    ensures { λ r. ⌜ ((k : ℕ) → k < 8 → getD r k (pos 0) ≡ cond (ltb (i + 1) m) (getD (now (avg .entry)) (k * m + (i + 1)) (pos 0)) (orElse (outer (now (next .entry)) k) (getD own k (pos 0)))) ⌝ }
+{
+    if i + 1 < m {
+        load_lanes(avg, i + 1, m)
+    } else {
+        outer_lanes(next, own)
+    }
+}
+
+// Eight rows of m averages and n residuals each.
+fn eight_rows(
+    avg: &[i32],
+    res: &[i32],
+    next: &[i32],
+    prev: &[i32],
+    m: usize,
+    n: usize,
+    out: &mut [i32],
+)
+    requires { ⌜ Fitting (squeeze true 8 m n (now avg) (now res) (now next) (now prev)) × (0 < m) × (length (now out) ≡ 8 * (m + n)) ⌝ }
+    ensures { λ _. ⌜ now (out .exit) ≡ uncut (squeeze true 8 m n (now (avg .entry)) (now (res .entry)) (now (next .entry)) (now (prev .entry))) ⌝ }
+{
+    let size = m + n;
+    let mut own = load_lanes(avg, 0, m);
+    let mut before = outer_lanes(prev, own);
+    let mut i = 0;
+    while i < n {
+        let following = next_lanes(avg, next, i, m, own);
+        let pairs = block::unsqueeze_block(own, load_lanes(res, i, n), following, before);
+        let firsts = pairs[0];
+        let seconds = pairs[1];
+        store_lanes(out, i + i, size, firsts);
+        store_lanes(out, i + i + 1, size, seconds);
+        own = following;
+        before = seconds;
+        i += 1;
+    }
+    if n < m {
+        store_lanes(out, n + n, size, own);
+    }
+}
+
+// The sample of an outer line, or what stands in for it.
+fn outer_sample(line: &[i32], other: i32) -> i32
+    ensures { λ r. ⌜ r ≡ orElse (outer (now (line .entry)) 0) other ⌝ }
+{
+    if line.len() == 0 { other } else { line[0] }
+}
+
+// The next average of pair i in one row.
+fn next_average(avg: &[i32], next: &[i32], i: usize) -> i32
+    requires { ⌜ i < length (now avg) ⌝ }
+    ensures { λ r. ⌜ r ≡ cond (ltb (i + 1) (length (now (avg .entry)))) (getD (now (avg .entry)) (i + 1) (pos 0)) (orElse (outer (now (next .entry)) 0) (getD (now (avg .entry)) i (pos 0))) ⌝ }
+{
+    if i + 1 < avg.len() {
+        avg[i + 1]
+    } else {
+        outer_sample(next, avg[i])
+    }
+}
+
+// One row of averages and residuals.
+fn one_row(avg: &[i32], res: &[i32], next: &[i32], prev: &[i32], out: &mut [i32])
+    requires { ⌜ Fitting (squeeze true 1 (length (now avg)) (length (now res)) (now avg) (now res) (now next) (now prev)) × (0 < length (now avg)) × (length (now out) ≡ length (now avg) + length (now res)) ⌝ }
+    ensures { λ _. ⌜ now (out .exit) ≡ uncut (squeeze true 1 (length (now (avg .entry))) (length (now (res .entry))) (now (avg .entry)) (now (res .entry)) (now (next .entry)) (now (prev .entry))) ⌝ }
+{
+    let mut before = outer_sample(prev, avg[0]);
+    let n = res.len();
+    let mut i = 0;
+    while i < n {
+        let p = pair::unsqueeze(avg[i], res[i], next_average(avg, next, i), before);
+        let first = p.first;
+        let second = p.second;
+        out[i + i] = first;
+        out[i + i + 1] = second;
+        before = second;
+        i += 1;
+    }
+    if n < avg.len() {
+        out[n + n] = avg[n];
+    }
+}
+
+// A part of an outer line, which may be absent.
+fn outer_part(line: &[i32], from: usize, to: usize) -> &[i32]
+    requires { ⌜ (from ≤ to) × ((length (now line) ≡ 0) ⊎ (to ≤ length (now line))) ⌝ }
+    ensures { λ r. ⌜ now r ≡ take (to - from) (drop from (now (line .entry))) ⌝ }
+{
+    if line.len() == 0 {
+        line
+    } else {
+        &line[from..to]
+    }
+}
+
+// Rows by eights; how many were done.
+fn rows_by_eight(
+    avg: &[i32],
+    res: &[i32],
+    next: &[i32],
+    prev: &[i32],
+    m: usize,
+    n: usize,
+    lines: usize,
+    out: &mut [i32],
+) -> usize
+    requires { ⌜ Fitting (squeeze true lines m n (now avg) (now res) (now next) (now prev)) × (0 < m) × (length (now out) ≡ lines * (m + n)) ⌝ }
+    ensures { λ r. ⌜ (r ≤ lines) × (lines < r + 8) × (now (out .exit) ≡ take (r * (m + n)) (uncut (squeeze true lines m n (now (avg .entry)) (now (res .entry)) (now (next .entry)) (now (prev .entry)))) ++ drop (r * (m + n)) (now (out .entry))) ⌝ }
+{
+    let mut y = 0;
+    while 8 <= lines - y {
+        let size = m + n;
+        let e = y + 8;
+        eight_rows(
+            &avg[y * m..e * m],
+            &res[y * n..e * n],
+            outer_part(next, y, e),
+            outer_part(prev, y, e),
+            m,
+            n,
+            &mut out[y * size..e * size],
+        );
+        y = e;
+    }
+    y
+}
+
+// The rows from the given one on, one by one.
+fn rows_singly(
+    avg: &[i32],
+    res: &[i32],
+    next: &[i32],
+    prev: &[i32],
+    m: usize,
+    n: usize,
+    lines: usize,
+    from: usize,
+    out: &mut [i32],
+)
+    requires { ⌜ Fitting (squeeze true lines m n (now avg) (now res) (now next) (now prev)) × (0 < m) × (length (now out) ≡ lines * (m + n)) × (from ≤ lines) ⌝ }
+    ensures { λ _. ⌜ now (out .exit) ≡ take (from * (m + n)) (now (out .entry)) ++ drop (from * (m + n)) (uncut (squeeze true lines m n (now (avg .entry)) (now (res .entry)) (now (next .entry)) (now (prev .entry)))) ⌝ }
+{
+    let mut y = from;
+    while y < lines {
+        let size = m + n;
+        let e = y + 1;
+        one_row(
+            &avg[y * m..e * m],
+            &res[y * n..e * n],
+            outer_part(next, y, e),
+            outer_part(prev, y, e),
+            &mut out[y * size..e * size],
+        );
+        y = e;
+    }
+}
+
+pub(crate) fn unsqueeze_rows(
+    avg: &[i32],
+    res: &[i32],
+    next: &[i32],
+    prev: &[i32],
+    m: usize,
+    n: usize,
+    lines: usize,
+    out: &mut [i32],
+)
+    requires { ⌜ Fitting (squeeze true lines m n (now avg) (now res) (now next) (now prev)) × (0 < m) × (length (now out) ≡ lines * (m + n)) ⌝ }
+    ensures { λ _. ⌜ now (out .exit) ≡ uncut (squeeze true lines m n (now (avg .entry)) (now (res .entry)) (now (next .entry)) (now (prev .entry))) ⌝ }
+{
+    let y = rows_by_eight(avg, res, next, prev, m, n, lines, out);
+    rows_singly(avg, res, next, prev, m, n, lines, y, out);
+}
