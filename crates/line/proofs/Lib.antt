@@ -6,3 +6,4 @@ pub mod Plain
 pub mod Alone
 pub mod ThereAndBack
 pub mod LineRows
+pub mod Sampled

@@ -14,17 +14,13 @@ use lib.Seq.{ext-getD}
 use Rattle.arith32.specs.Arith.{Sample}
 use Rattle.line.specs.Line.{Line, sample}
 use Rattle.line.specs.Uncut.{Squeeze, squeeze, place, lineAt, positionAt, size, table, lineOf, outputAt, uncut}
-use Rattle.line.specs.Forward.{averageCount, residualCount, averageAt, nextAt, prevAt, residualAt, lineIn, averagesOf, residualsOf}
+use Rattle.line.specs.Forward.{averageCount, residualCount, averageAt, nextAt, prevAt, residualAt, lineIn, averagesOf, residualsOf, Samples}
 use Rattle.line.proofs.Tables.{table-length, table-at, is-table}
 use Rattle.line.proofs.Places.{line-back, position-back, place-back, place-room, line-room, position-room}
 use Rattle.line.proofs.Lines.{Fits, Same, same-sample, lt-or-ge}
 use Rattle.line.proofs.Outputs.{outer-none}
 use Rattle.line.proofs.Outputs.{uncut-at, uncut-length, line-averages, line-residuals, line-avg, line-res, line-next, line-prev}
 use Rattle.line.proofs.Alone.{squeezedLine, line-again, averages-again, residuals-again}
-
--- every element is a 32-bit sample
-abbrev pub Samples : List ℤ → Type 0
-Samples xs = (i : ℕ) → i < length xs → Sample (getD xs i (pos 0))
 
 -- ---- what stands at a place of the averages and of the residuals
 module _ (h : Bool) (lines n : ℕ) (xs : List ℤ) where

@@ -2,10 +2,11 @@
 -- average, and each residual is first - second minus the tendency met there in rebuilding." Definitions only.
 use mathlib.Core.Bool.{Bool, cond}
 use mathlib.Core.List.{List}
-use Prim.Native.Nat.{ℕ, zero, suc, _+_, _-_, _*_, _/_}
+use Prim.Native.Nat.{ℕ, zero, suc, _+_, _-_, _*_, _/_, _<_}
 use lib.Dec.{ltb}
 use lib.IntN.{ℤ, pos}
-use lib.ListN.{getD}
+use lib.ListN.{length, getD}
+use Rattle.arith32.specs.Arith.{Sample}
 use Rattle.pair.specs.Pair.{average, residual}
 use Rattle.line.specs.Uncut.{place, lineAt, positionAt, table}
 
@@ -52,3 +53,7 @@ residualsOf horizontal lines size xs =
     residualAt (lineIn horizontal lines size xs (lineAt horizontal lines (residualCount size) j)) size
     (positionAt horizontal lines (residualCount size) j))
     0 (lines * residualCount size)
+
+-- a slice of 32-bit samples
+abbrev pub Samples : List ℤ → Type 0
+Samples xs = (i : ℕ) → i < length xs → Sample (getD xs i (pos 0))

@@ -1,0 +1,69 @@
+-- What no refusal says of a list and of a step, by the order of the questions. Assumes nothing.
+use mathlib.Core.Path.{_≡_, refl}
+use mathlib.Core.Bool.{and-eq-true-iff}
+use mathlib.Core.List.{List}
+use Prim.Native.Nat.{_+_, _≤_}
+use native.Mathlib.Omega.{arith}
+use lib.Dec.{leb}
+use lib.ListN.{length}
+use borrow.Author.Tests.{leb-true, le-leb}
+use Rattle.channel.specs.declared.Channel.{Channel}
+use Rattle.list.specs.declared.ChannelList.{ChannelList}
+use Rattle.list.specs.declared.Step.{Step}
+use Rattle.list.specs.Tables.{all}
+use Rattle.list.specs.Lists.{maxChannels, channels, packed, range}
+use Rattle.list.specs.Questions.{countAllowed, channelsAllowed, totalAllowed, judgeList, rangeAllowed, kindsAlike, placeAllowed, hasSides, shiftsKept, roomLeft, judgeStep}
+use Rattle.list.specs.Accepted.{Accepted, StepAccepted}
+use Rattle.list.proofs.Channels.{range-inside, channels-length}
+use Rattle.list.proofs.Packed.{channels-packed}
+use Rattle.list.proofs.Asking.{passed}
+
+packed-count : (cs : List Channel) → packed cs .count ≡ length cs
+unfolding packed
+packed-count cs = refl
+
+-- ---- the list
+pub count-inside : (l : ChannelList) → judgeList l ≡ 0 → (1 ≤ l .count) × (l .count ≤ maxChannels)
+unfolding judgeList countAllowed
+count-inside l h =
+    let c = and-eq-true-iff (leb 1 (l .count)) (leb (l .count) maxChannels) .0 (passed (countAllowed (l .count)) _ _ h .0) in
+    (leb-true _ _ (c .0), leb-true _ _ (c .1))
+
+pub list-accepted : (l : ChannelList) → judgeList l ≡ 0 → Accepted (channels l)
+unfolding judgeList
+list-accepted l h =
+    let p3 = passed (countAllowed (l .count)) _ _ h in
+    let p4 = passed (channelsAllowed (channels l)) _ _ (p3 .1) in
+    let p5 = passed (totalAllowed (channels l)) _ _ (p4 .1) in
+    let c = count-inside l h in
+    let n = channels-length l in
+    record { some = omega arith; few = omega arith; allowed = p4 .0; samples = p5 .0 }
+
+pub accepted-packed : (cs : List Channel) → judgeList (packed cs) ≡ 0 → Accepted cs
+accepted-packed cs h = rw (channels-packed cs (rw (packed-count cs) at (count-inside (packed cs) h .1))) at (list-accepted (packed cs) h)
+
+pub packed-accepted : (cs : List Channel) → Accepted cs → judgeList (packed cs) ≡ 0
+unfolding judgeList countAllowed
+packed-accepted cs ok =
+    rw (channels-packed cs (ok .few), packed-count cs, le-leb 1 (length cs) (ok .some), le-leb (length cs) maxChannels (ok .few), ok .allowed, ok .samples)
+
+-- ---- a step
+pub step-accepted : (s : Step) (cs : List Channel) → judgeStep s cs ≡ 0 → StepAccepted s cs
+unfolding judgeStep roomLeft
+step-accepted s cs h =
+    let p7 = passed (rangeAllowed s cs) _ _ h in
+    let p8 = passed (kindsAlike s cs) _ _ (p7 .1) in
+    let p9 = passed (placeAllowed s cs) _ _ (p8 .1) in
+    let p10 = passed (all hasSides (range s cs)) _ _ (p9 .1) in
+    let p11 = passed (roomLeft s cs) _ _ (p10 .1) in
+    let i = range-inside s cs (p7 .0) in
+    let r = and-eq-true-iff (leb (length cs + s .number) maxChannels) (all (shiftsKept (s .horizontal)) (range s cs)) .0 (p11 .0) in
+    record {
+      some = i .0;
+      inside = i .1;
+      alike = p8 .0;
+      placed = p9 .0;
+      sides = p10 .0;
+      room = leb-true _ _ (r .0);
+      kept = r .1;
+    }

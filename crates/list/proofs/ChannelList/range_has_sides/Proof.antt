@@ -1,0 +1,88 @@
+-- `range_has_sides` meets its contract: what is left of the range answers for the whole. Assumes nothing.
+use mathlib.Core.Path.{_≡_, refl, _∙_}
+use Prim.Native.Nat.{_-_}
+use borrow.Author.Needs.{needs}
+use borrow.Author.Tests.{not-true, not-false}
+use Rattle.list.specs.Tables.{table, all}
+use Rattle.list.specs.Lists.{channelAt, channels}
+use Rattle.list.specs.Questions.{hasSides}
+use Rattle.list.proofs.Tables.{table-none, all-stop, all-next}
+use Rattle.list.proofs.Channels.{range-inside, channels-range}
+use Rattle.list.proofs.ChannelList.range_has_sides.Statement.{statement}
+use Rattle.list.proofs.ChannelList.range_has_sides.Tie as tie
+
+abbrev Inv-loop : tie.InvT-loop
+Inv-loop self begin end k₀ k = all hasSides (table (channelAt self) k (end - k)) ≡ all hasSides (table (channelAt self) begin (end - begin))
+
+abbrev μ-loop : tie.MeasureT-loop
+μ-loop self begin end k₀ k = end - k
+
+cast-begin : tie.Need-cast-begin Inv-loop μ-loop
+cast-begin c = search needs
+
+cast-end : tie.Need-cast-end Inv-loop μ-loop
+cast-end c = search needs
+
+add-end : tie.Need-add-end Inv-loop μ-loop
+add-end c = search needs
+
+loop-holds : tie.Need-loop-holds Inv-loop μ-loop
+loop-holds c = refl
+
+channel-requires : tie.Need-channel-requires Inv-loop μ-loop
+channel-requires c κs = search needs
+
+has-sides-requires : tie.Need-has-sides-requires Inv-loop μ-loop
+has-sides-requires c κs = search needs
+
+returns : tie.Need-returns Inv-loop μ-loop
+returns c =
+    let t = c .before .has-sides in
+    let v = c .before .before .channel in
+    let q = c .before .before .before in
+    let s = q .before .before .before .before in
+    rw (channels-range (s .args .self) (s .args .step) (range-inside (s .args .step) (channels (s .args .self)) (s .pre) .1))
+    (all-stop (channelAt (s .args .self)) hasSides (q .before .loop .k) _ (v .result) (t .result) (q .loop-test .taken) (v .ensures) (t .ensures)
+    (not-true (t .result) (c .if1 .taken))
+    ∙ q .before .loop .inv)
+
+add-k : tie.Need-add-k Inv-loop μ-loop
+add-k c = search needs
+
+loop-less : tie.Need-loop-less Inv-loop μ-loop
+loop-less c = search needs
+
+loop-again : tie.Need-loop-again Inv-loop μ-loop
+loop-again c =
+    let t = c .before .has-sides in
+    let v = c .before .before .channel in
+    let q = c .before .before .before in
+    let s = q .before .before .before .before in
+    all-next (channelAt (s .args .self)) hasSides (q .before .loop .k) _ (v .result) (t .result) (q .loop-test .taken) (v .ensures) (t .ensures)
+    (not-false (t .result) (c .if1 .left))
+    ∙ q .before .loop .inv
+
+returns-2 : tie.Need-returns-2 Inv-loop μ-loop
+returns-2 c =
+    let q = c .before in
+    let s = q .before .before .before in
+    rw (channels-range (s .args .self) (s .args .step) (range-inside (s .args .step) (channels (s .args .self)) (s .pre) .1))
+    (rw (table-none (channelAt (s .args .self)) (q .loop .k) _ (c .loop-test .left)) at (q .loop .inv))
+
+pub range-has-sides-spec : {M : Type 1} → statement M
+range-has-sides-spec =
+    tie.close
+    (tie.spec
+    Inv-loop
+    μ-loop
+    cast-begin
+    cast-end
+    add-end
+    loop-holds
+    channel-requires
+    has-sides-requires
+    returns
+    add-k
+    loop-less
+    loop-again
+    returns-2)

@@ -1,0 +1,48 @@
+-- The channels that flat arrays hold: how many, each of them, and a step's range of them. Assumes nothing.
+use mathlib.Core.Path.{_≡_, sym, ap, _∙_}
+use mathlib.Core.Bool.{true, and-eq-true-iff}
+use mathlib.Core.List.{List}
+use Prim.Native.Nat.{ℕ, _+_, _-_, _<_, _≤_, min}
+use native.Mathlib.Omega.{arith}
+use lib.Dec.{leb}
+use lib.ListN.{length}
+use borrow.Author.Tests.{leb-true}
+use Rattle.channel.specs.declared.Channel.{Channel}
+use Rattle.list.specs.declared.ChannelList.{ChannelList}
+use Rattle.list.specs.declared.Step.{Step}
+use Rattle.list.specs.Tables.{table}
+use Rattle.list.specs.Lists.{maxChannels, channelAt, channels, range}
+use Rattle.list.specs.Questions.{channelOf, rangeAllowed}
+use Rattle.list.proofs.Tables.{table-length, table-at, table-part}
+
+-- question 7
+pub range-inside : (s : Step) (cs : List Channel) → rangeAllowed s cs ≡ true → (1 ≤ s .number) × (s .begin + s .number ≤ length cs)
+unfolding rangeAllowed
+range-inside s cs h =
+    let b = and-eq-true-iff (leb 1 (s .number)) (leb (s .begin + s .number) (length cs)) .0 h in
+    (leb-true _ _ (b .0), leb-true _ _ (b .1))
+
+module _ (l : ChannelList) where
+  -- what a loop over the channels has left where it begins
+  pub channels-all : (n : ℕ) → n ≡ min (l .count) maxChannels → table (channelAt l) 0 (n - 0) ≡ channels l
+  unfolding channels
+  channels-all n e = let z : n - 0 ≡ min (l .count) maxChannels = omega arith in ap (table (channelAt l) 0) z
+
+  pub channels-length : length (channels l) ≡ min (l .count) maxChannels
+  unfolding channels
+  channels-length = table-length (channelAt l) 0 _
+
+  pub channels-at : (k : ℕ) → k < length (channels l) → channelAt l k ≡ channelOf (channels l) k
+  unfolding channels
+  channels-at k h =
+      let n = channels-length in
+      let z : 0 + k ≡ k = omega arith in
+      sym (table-at (channelAt l) 0 (min (l .count) maxChannels) k _ (omega arith) ∙ ap (channelAt l) z)
+
+  pub channels-range : (s : Step) → s .begin + s .number ≤ length (channels l) → range s (channels l) ≡ table (channelAt l) (s .begin) (s .begin + s .number - s .begin)
+  unfolding channels
+  channels-range s h =
+      let n = channels-length in
+      let z : 0 + s .begin ≡ s .begin = omega arith in
+      let m : s .begin + s .number - s .begin ≡ s .number = omega arith in
+      table-part (channelAt l) 0 (min (l .count) maxChannels) (s .begin) (s .number) (omega arith) ∙ rw (z, m)

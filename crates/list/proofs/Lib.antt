@@ -1,0 +1,14 @@
+pub mod Tables
+pub mod Maps
+pub mod Channels
+pub mod Asking
+pub mod Shifts
+pub mod Parts
+pub mod Entries
+pub mod Filled
+pub mod Packed
+pub mod Acceptance
+pub mod MetaFirst
+pub mod Totals
+pub mod Kept
+pub mod Taken

@@ -1,0 +1,101 @@
+-- Channel lists (document 01, "The entry", "The list and the plan"): the list that flat arrays of 256 entries hold up to their count, and the
+-- list that a step leaves. Definitions only.
+use mathlib.Core.Bool.{Bool, cond}
+use mathlib.Core.List.{List, [], _∷_, _++_}
+use Prim.Native.Nat.{ℕ, _+_, _-_, _/_, min}
+use lib.ListN.{length, take, drop, getD}
+use Rattle.channel.specs.declared.Channel.{Channel}
+use Rattle.channel.specs.Channel.{isMeta, samples}
+use Rattle.list.specs.declared.ChannelList.{ChannelList}
+use Rattle.list.specs.declared.Step.{Step}
+use Rattle.list.specs.Tables.{table, padded, map}
+
+-- "The list carries its own limits, 256 channels and 64 steps"; question 5 has the samples'
+abbrev pub maxChannels : ℕ
+maxChannels = 256
+
+abbrev pub maxSteps : ℕ
+maxSteps = 64
+
+abbrev pub maxSamples : ℕ
+maxSamples = 16_777_216
+
+-- ---- flat arrays
+-- entry k of the arrays
+abbrev pub channelAt : ChannelList → ℕ → Channel
+channelAt l k =
+    record { width = getD (l .widths) k 0; height = getD (l .heights) k 0; hshift = getD (l .hshifts) k 0; vshift = getD (l .vshifts) k 0 }
+
+-- the channels that are meant: the first `count`; nothing else of the arrays is
+unfoldable pub channels : ChannelList → List Channel
+channels l = table (channelAt l) 0 (min (l .count) maxChannels)
+
+-- the arrays that hold a list, unused entries 0
+unfoldable pub packed : List Channel → ChannelList
+packed cs =
+    record {
+      count = length cs;
+      widths = padded maxChannels (map (λ (c : Channel). c .width) cs);
+      heights = padded maxChannels (map (λ (c : Channel). c .height) cs);
+      hshifts = padded maxChannels (map (λ (c : Channel). c .hshift) cs);
+      vshifts = padded maxChannels (map (λ (c : Channel). c .vshift) cs);
+    }
+
+-- ---- a step taken by a list
+-- "the side halved, rounded up", and "the rest of the side"
+abbrev pub halved : ℕ → ℕ
+halved side = (side + 1) / 2
+
+abbrev pub rest : ℕ → ℕ
+rest side = side - halved side
+
+-- "the shift in that direction one more; meta stays meta"
+unfoldable pub raised : Bool → Channel → Channel
+raised horizontal c =
+    cond (isMeta c) c
+    (record {
+      width = c .width;
+      height = c .height;
+      hshift = cond horizontal (c .hshift + 1) (c .hshift);
+      vshift = cond horizontal (c .vshift) (c .vshift + 1);
+    })
+
+-- the channel with its side in the step's direction put through f
+abbrev pub sided : (ℕ → ℕ) → Bool → Channel → Channel
+sided f horizontal c =
+    record {
+      width = cond horizontal (f (c .width)) (c .width);
+      height = cond horizontal (c .height) (f (c .height));
+      hshift = c .hshift;
+      vshift = c .vshift;
+    }
+
+-- "replaces each channel of its range by the average"; "makes a residual with the rest of the side and the same shifts"
+unfoldable pub average : Bool → Channel → Channel
+average horizontal c = raised horizontal (sided halved horizontal c)
+
+unfoldable pub residual : Bool → Channel → Channel
+residual horizontal c = raised horizontal (sided rest horizontal c)
+
+-- a step's range, and what stands before and after it
+abbrev pub before : Step → List Channel → List Channel
+before s cs = take (s .begin) cs
+
+abbrev pub range : Step → List Channel → List Channel
+range s cs = take (s .number) (drop (s .begin) cs)
+
+abbrev pub after : Step → List Channel → List Channel
+after s cs = drop (s .begin + s .number) cs
+
+-- "Residuals go, in order, straight after the range if in place, else after the last channel"
+unfoldable pub stepped : Step → List Channel → List Channel
+stepped s cs =
+    before s cs ++ (map (average (s .horizontal)) (range s cs)
+    ++ cond (s .inplace)
+    (map (residual (s .horizontal)) (range s cs) ++ after s cs)
+    (after s cs ++ map (residual (s .horizontal)) (range s cs)))
+
+-- ---- "all samples of the list"
+abbrev pub total : List Channel → ℕ
+total [] = 0
+total (c ∷ cs) = samples c + total cs

@@ -1,0 +1,91 @@
+-- The questions that document 01 puts to a list (3 to 5) and to a step on it (7 to 11), in its order: the first "no" is the refusal, and 0 says
+-- that there is none. Definitions only.
+use mathlib.Core.Bool.{Bool, true, cond, _&&_, _||_, not}
+use mathlib.Core.List.{List, [], _∷_}
+use Prim.Native.Nat.{ℕ, _+_, _-_}
+use lib.Dec.{eqb, leb, ltb}
+use lib.ListN.{length, getD}
+use Rattle.channel.specs.declared.Channel.{Channel}
+use Rattle.channel.specs.Channel.{isMeta, shiftsAllowed}
+use Rattle.list.specs.declared.ChannelList.{ChannelList}
+use Rattle.list.specs.declared.Step.{Step}
+use Rattle.list.specs.declared.Stepped.{Stepped}
+use Rattle.list.specs.Tables.{all}
+use Rattle.list.specs.Lists.{maxChannels, maxSamples, channels, packed, range, raised, stepped, total}
+
+-- a question: its answer, the refusal's number where it is "no", and what is asked next
+abbrev pub ask : Bool → ℕ → ℕ → ℕ
+ask answer number next = cond answer next number
+
+-- ---- the list
+-- 3. "Are there 1 to 256 channels"
+unfoldable pub countAllowed : ℕ → Bool
+countAllowed count = leb 1 count && leb count maxChannels
+
+-- 4. "meta channels first"
+abbrev pub metaFirst : List Channel → Bool
+metaFirst [] = true
+metaFirst (c ∷ cs) = cond (isMeta c) (metaFirst cs) (all (λ d. not (isMeta d)) cs)
+
+-- 4. "Are shifts 0 to 30 or both 255, meta channels first"
+unfoldable pub channelsAllowed : List Channel → Bool
+channelsAllowed cs = all shiftsAllowed cs && metaFirst cs
+
+-- 5. "Do all samples of the list .. number at most 16,777,216?"
+unfoldable pub totalAllowed : List Channel → Bool
+totalAllowed cs = leb (total cs) maxSamples
+
+unfoldable pub judgeList : ChannelList → ℕ
+judgeList l =
+    ask (countAllowed (l .count)) 3
+    (ask (channelsAllowed (channels l)) 4
+    (ask (totalAllowed (channels l)) 5 0))
+
+-- ---- a step
+-- the channel at k; past the list a channel of zeros
+abbrev pub channelOf : List Channel → ℕ → Channel
+channelOf cs k = getD cs k (record { width = 0; height = 0; hshift = 0; vshift = 0 })
+
+-- 7. "Is the number at least 1 and first + number at most the channel count?"
+unfoldable pub rangeAllowed : Step → List Channel → Bool
+rangeAllowed s cs = leb 1 (s .number) && leb (s .begin + s .number) (length cs)
+
+-- 8. "Are the first and last of the range both meta or both not?"
+unfoldable pub kindsAlike : Step → List Channel → Bool
+kindsAlike s cs =
+    cond (isMeta (channelOf cs (s .begin)))
+    (isMeta (channelOf cs (s .begin + s .number - 1)))
+    (not (isMeta (channelOf cs (s .begin + s .number - 1))))
+
+-- 9. "If meta, is the step in place?"
+unfoldable pub placeAllowed : Step → List Channel → Bool
+placeAllowed s cs = not (isMeta (channelOf cs (s .begin))) || s .inplace
+
+-- 10. "Has every channel of the range both sides above 0?"
+unfoldable pub hasSides : Channel → Bool
+hasSides c = ltb 0 (c .width) && ltb 0 (c .height)
+
+-- 11. "Will there be at most 256 channels and no shift above 30?"
+unfoldable pub shiftsKept : Bool → Channel → Bool
+shiftsKept horizontal c = shiftsAllowed (raised horizontal c)
+
+unfoldable pub roomLeft : Step → List Channel → Bool
+roomLeft s cs = leb (length cs + s .number) maxChannels && all (shiftsKept (s .horizontal)) (range s cs)
+
+unfoldable pub judgeStep : Step → List Channel → ℕ
+judgeStep s cs =
+    ask (rangeAllowed s cs) 6
+    (ask (kindsAlike s cs) 7
+    (ask (placeAllowed s cs) 8
+    (ask (all hasSides (range s cs)) 9
+    (ask (roomLeft s cs) 10 0))))
+
+-- ---- "A step taken by a list gives the next list": questions 3 to 5 of the list, then 7 to 11; a refusal leaves the list as it came
+unfoldable pub stepAnswer : Step → ChannelList → ℕ
+stepAnswer s l = ask (eqb (judgeList l) 0) (judgeList l) (judgeStep s (channels l))
+
+unfoldable pub taken : Step → ChannelList → Stepped
+taken s l =
+    cond (eqb (stepAnswer s l) 0)
+    (record { answer = 0; list = packed (stepped s (channels l)) })
+    (record { answer = stepAnswer s l; list = l })

@@ -1,0 +1,394 @@
+// The channel list (document 01, "The list and the plan"; the Rust's
+// `check_squeeze_params` and the Squeeze arm of `meta_apply_single_transform`):
+// flat arrays filled up to a count, the questions put to a list and to a step
+// on it, and the list that a step leaves. Total: any count, any shift and any
+// unused entry may come in.
+ghost use mathlib.Core.Path.{_≡_};
+ghost use mathlib.Core.Bool.{true, false, cond};
+ghost use mathlib.Core.List.{[]};
+ghost use Prim.Native.Nat.{_+_, _<_, min};
+ghost use lib.ListN.{length};
+ghost use Rattle.channel.specs.Channel.{metaShift, isMeta};
+ghost use Rattle.list.specs.Tables.{all};
+ghost use Rattle.list.specs.Lists as Lists;
+ghost use Rattle.list.specs.Questions as Questions;
+ghost use Rattle.list.specs.Accepted.{StepAccepted};
+use channel::Channel;
+
+pub struct ChannelList {
+    pub count: usize,
+    pub widths: [u16; 256],
+    pub heights: [u16; 256],
+    pub hshifts: [u8; 256],
+    pub vshifts: [u8; 256],
+}
+
+// A squeeze step (the Rust's `SqueezeParams`).
+pub struct Step {
+    pub horizontal: bool,
+    pub inplace: bool,
+    pub begin: u16,
+    pub number: u16,
+}
+
+// The answer 0 with the next list, or a refusal's number with the list as it
+// was.
+pub struct Stepped {
+    pub answer: u32,
+    pub list: ChannelList,
+}
+
+// The side in the step's direction.
+fn side(c: Channel, horizontal: bool) -> u16
+    ensures { λ r. ⌜ r ≡ cond horizontal (c .width) (c .height) ⌝ }
+{
+    if horizontal { c.width } else { c.height }
+}
+
+// The channel with another side in the step's direction.
+fn with_side(c: Channel, horizontal: bool, side: u16) -> Channel
+    ensures { λ r. ⌜ r ≡ Lists.sided (λ _. side) horizontal c ⌝ }
+{
+    let mut sided = c;
+    if horizontal {
+        sided.width = side;
+    } else {
+        sided.height = side;
+    }
+    sided
+}
+
+// Question 10, of one channel.
+fn has_sides(c: Channel) -> bool
+    ensures { λ r. ⌜ r ≡ Questions.hasSides c ⌝ }
+{
+    (0 < c.width) & (0 < c.height)
+}
+
+// The shift in the step's direction.
+fn shift(c: Channel, horizontal: bool) -> u8
+    ensures { λ r. ⌜ r ≡ cond horizontal (c .hshift) (c .vshift) ⌝ }
+{
+    if horizontal { c.hshift } else { c.vshift }
+}
+
+// The channel with its shift in the step's direction one more; a meta channel
+// stays.
+fn raised(c: Channel, horizontal: bool) -> Channel
+    requires { ⌜ (isMeta c ≡ false → cond horizontal (c .hshift) (c .vshift) < metaShift) ⌝ }
+    ensures { λ r. ⌜ r ≡ Lists.raised horizontal c ⌝ }
+{
+    if c.is_meta() {
+        return c;
+    }
+    let mut raised = c;
+    if horizontal {
+        raised.hshift = c.hshift + 1;
+    } else {
+        raised.vshift = c.vshift + 1;
+    }
+    raised
+}
+
+// Question 11, of one channel's shifts. One of 255 has no room for one more.
+fn keeps_shifts(c: Channel, horizontal: bool) -> bool
+    ensures { λ r. ⌜ r ≡ Questions.shiftsKept horizontal c ⌝ }
+{
+    if shift(c, horizontal) == Channel::META {
+        return c.is_meta();
+    }
+    raised(c, horizontal).has_shifts_allowed()
+}
+
+fn halved(side: u16) -> u16
+    ensures { λ r. ⌜ r ≡ Lists.halved side ⌝ }
+{
+    ((side as u32 + 1) / 2) as u16
+}
+
+fn average(c: Channel, horizontal: bool) -> Channel
+    requires { ⌜ Questions.shiftsKept horizontal c ≡ true ⌝ }
+    ensures { λ r. ⌜ r ≡ Lists.average horizontal c ⌝ }
+{
+    let half = halved(side(c, horizontal));
+    raised(with_side(c, horizontal, half), horizontal)
+}
+
+fn residual(c: Channel, horizontal: bool) -> Channel
+    requires { ⌜ Questions.shiftsKept horizontal c ≡ true ⌝ }
+    ensures { λ r. ⌜ r ≡ Lists.residual horizontal c ⌝ }
+{
+    let side = side(c, horizontal);
+    let rest = side - halved(side);
+    raised(with_side(c, horizontal, rest), horizontal)
+}
+
+impl ChannelList {
+    pub const MAX_CHANNELS: usize = 256;
+
+    pub const MAX_STEPS: usize = 64;
+
+    pub const MAX_SAMPLES: u64 = 16_777_216;
+
+    // The list without a channel.
+    pub fn empty() -> Self
+        ensures { λ r. ⌜ r ≡ Lists.packed [] ⌝ }
+    {
+        ChannelList {
+            count: 0,
+            widths: [0u16; 256],
+            heights: [0u16; 256],
+            hshifts: [0u8; 256],
+            vshifts: [0u8; 256],
+        }
+    }
+
+    // Entry `k` of the arrays, zeros past them.
+    pub fn channel(self, k: usize) -> Channel
+        ensures { λ r. ⌜ r ≡ Lists.channelAt self k ⌝ }
+    {
+        if k < ChannelList::MAX_CHANNELS {
+            Channel {
+                width: self.widths[k],
+                height: self.heights[k],
+                hshift: self.hshifts[k],
+                vshift: self.vshifts[k],
+            }
+        } else {
+            Channel {
+                width: 0,
+                height: 0,
+                hshift: 0,
+                vshift: 0,
+            }
+        }
+    }
+
+    // How many channels are meant.
+    fn len(self) -> usize
+        ensures { λ r. ⌜ r ≡ min (self .count) Lists.maxChannels ⌝ }
+    {
+        if self.count < ChannelList::MAX_CHANNELS {
+            self.count
+        } else {
+            ChannelList::MAX_CHANNELS
+        }
+    }
+
+    // Question 4.
+    fn channels_allowed(self) -> bool
+        ensures { λ r. ⌜ r ≡ Questions.channelsAllowed (Lists.channels self) ⌝ }
+    {
+        let count = self.len();
+        let mut plain = false; // the channel before is not meta
+        for k in 0..count {
+            let c = self.channel(k);
+            let meta = c.is_meta();
+            if !c.has_shifts_allowed() | (plain & meta) {
+                return false;
+            }
+            plain = !meta;
+        }
+        true
+    }
+
+    // All samples of the list.
+    pub fn total(self) -> u64
+        ensures { λ r. ⌜ r ≡ Lists.total (Lists.channels self) ⌝ }
+    {
+        let count = self.len();
+        let mut total = 0u64;
+        for k in 0..count {
+            total += self.channel(k).samples();
+        }
+        total
+    }
+
+    // Questions 3 to 5.
+    pub fn judge(self) -> u32
+        ensures { λ r. ⌜ r ≡ Questions.judgeList self ⌝ }
+    {
+        let count = self.count;
+        if !((1 <= count) & (count <= ChannelList::MAX_CHANNELS)) {
+            return 3;
+        }
+        if !self.channels_allowed() {
+            return 4;
+        }
+        if ChannelList::MAX_SAMPLES < self.total() {
+            return 5;
+        }
+        0
+    }
+
+    // Question 7.
+    fn range_allowed(self, step: Step) -> bool
+        ensures { λ r. ⌜ r ≡ Questions.rangeAllowed step (Lists.channels self) ⌝ }
+    {
+        let end = step.begin as usize + step.number as usize;
+        (1 <= step.number) & (end <= self.len())
+    }
+
+    // Question 8.
+    fn kinds_alike(self, step: Step) -> bool
+        requires { ⌜ Questions.rangeAllowed step (Lists.channels self) ≡ true ⌝ }
+        ensures { λ r. ⌜ r ≡ Questions.kindsAlike step (Lists.channels self) ⌝ }
+    {
+        let begin = step.begin as usize;
+        let last = begin + step.number as usize - 1;
+        self.channel(begin).is_meta() == self.channel(last).is_meta()
+    }
+
+    // Question 9.
+    fn place_allowed(self, step: Step) -> bool
+        requires { ⌜ Questions.rangeAllowed step (Lists.channels self) ≡ true ⌝ }
+        ensures { λ r. ⌜ r ≡ Questions.placeAllowed step (Lists.channels self) ⌝ }
+    {
+        !self.channel(step.begin as usize).is_meta() | step.inplace
+    }
+
+    // Question 10.
+    fn range_has_sides(self, step: Step) -> bool
+        requires { ⌜ Questions.rangeAllowed step (Lists.channels self) ≡ true ⌝ }
+        ensures { λ r. ⌜ r ≡ all Questions.hasSides (Lists.range step (Lists.channels self)) ⌝ }
+    {
+        let begin = step.begin as usize;
+        let end = begin + step.number as usize;
+        for k in begin..end {
+            if !has_sides(self.channel(k)) {
+                return false;
+            }
+        }
+        true
+    }
+
+    // Question 11, of the shifts.
+    fn range_keeps_shifts(self, step: Step) -> bool
+        requires { ⌜ Questions.rangeAllowed step (Lists.channels self) ≡ true ⌝ }
+        ensures { λ r. ⌜ r ≡ all (Questions.shiftsKept (step .horizontal)) (Lists.range step (Lists.channels self)) ⌝ }
+    {
+        let begin = step.begin as usize;
+        let end = begin + step.number as usize;
+        for k in begin..end {
+            if !keeps_shifts(self.channel(k), step.horizontal) {
+                return false;
+            }
+        }
+        true
+    }
+
+    // Question 11.
+    fn room_left(self, step: Step) -> bool
+        requires { ⌜ Questions.rangeAllowed step (Lists.channels self) ≡ true ⌝ }
+        ensures { λ r. ⌜ r ≡ Questions.roomLeft step (Lists.channels self) ⌝ }
+    {
+        let count = self.len() + step.number as usize;
+        (count <= ChannelList::MAX_CHANNELS) & self.range_keeps_shifts(step)
+    }
+
+    // Questions 7 to 11.
+    pub fn check_squeeze_params(self, step: Step) -> u32
+        ensures { λ r. ⌜ r ≡ Questions.judgeStep step (Lists.channels self) ⌝ }
+    {
+        if !self.range_allowed(step) {
+            return 6;
+        }
+        if !self.kinds_alike(step) {
+            return 7;
+        }
+        if !self.place_allowed(step) {
+            return 8;
+        }
+        if !self.range_has_sides(step) {
+            return 9;
+        }
+        if !self.room_left(step) {
+            return 10;
+        }
+        0
+    }
+
+    // Where the residuals start in the list that a step leaves.
+    fn residuals_at(self, step: Step) -> usize
+        ensures { λ r. ⌜ r ≡ cond (step .inplace) (step .begin + step .number) (min (self .count) Lists.maxChannels) ⌝ }
+    {
+        if step.inplace {
+            step.begin as usize + step.number as usize
+        } else {
+            self.len()
+        }
+    }
+
+    // Channel `k` of the list that a step leaves.
+    fn entry(self, step: Step, k: usize) -> Channel
+        requires { ⌜ StepAccepted step (Lists.channels self) × (k < length (Lists.channels self) + step .number) ⌝ }
+        ensures { λ r. ⌜ r ≡ Questions.channelOf (Lists.stepped step (Lists.channels self)) k ⌝ }
+    {
+        let begin = step.begin as usize;
+        let number = step.number as usize;
+        if k < begin {
+            return self.channel(k);
+        }
+        if k < begin + number {
+            return average(self.channel(k), step.horizontal);
+        }
+        let residuals = self.residuals_at(step);
+        if k < residuals {
+            return self.channel(k);
+        }
+        if k < residuals + number {
+            return residual(self.channel(k - residuals + begin), step.horizontal);
+        }
+        self.channel(k - number)
+    }
+
+    // The list that a step leaves.
+    fn stepped(self, step: Step) -> ChannelList
+        requires { ⌜ StepAccepted step (Lists.channels self) ⌝ }
+        ensures { λ r. ⌜ r ≡ Lists.packed (Lists.stepped step (Lists.channels self)) ⌝ }
+    {
+        let count = self.len() + step.number as usize;
+        let mut widths = [0u16; 256];
+        let mut heights = [0u16; 256];
+        let mut hshifts = [0u8; 256];
+        let mut vshifts = [0u8; 256];
+        for k in 0..count {
+            let c = self.entry(step, k);
+            widths[k] = c.width;
+            heights[k] = c.height;
+            hshifts[k] = c.hshift;
+            vshifts[k] = c.vshift;
+        }
+        ChannelList {
+            count,
+            widths,
+            heights,
+            hshifts,
+            vshifts,
+        }
+    }
+
+    // The next list, or the refusal's number beside the list as it came.
+    pub fn step(self, step: Step) -> Stepped
+        ensures { λ r. ⌜ r ≡ Questions.taken step self ⌝ }
+    {
+        let refusal = self.judge();
+        if refusal != 0 {
+            return Stepped {
+                answer: refusal,
+                list: self,
+            };
+        }
+        let refusal = self.check_squeeze_params(step);
+        if refusal != 0 {
+            return Stepped {
+                answer: refusal,
+                list: self,
+            };
+        }
+        Stepped {
+            answer: 0,
+            list: self.stepped(step),
+        }
+    }
+}

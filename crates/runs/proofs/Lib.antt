@@ -1,0 +1,4 @@
+pub mod Shapes
+pub mod OneChannel
+pub mod OneStep
+pub mod Whole
