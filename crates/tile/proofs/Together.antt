@@ -13,7 +13,7 @@ use lib.IntN.{ℤ}
 use lib.ListN.{length}
 use Rattle.line.specs.Uncut.{Squeeze, Fitting}
 use Rattle.tile.specs.Call.{Call, answer, after}
-use Rattle.tile.specs.Cut.{Strip, Cut, tileSize, tileOut, tileCall, part, State, Event, runs, other, on, stored, happens, together, allowed, allAllowed}
+use Rattle.tile.specs.Cut.{Strip, Cut, tileSize, tileOut, tileCall, part, State, Event, runs, other, on, stored, happens, together, allowed, allAllowed, Begins, AllRan, AllHold}
 use Rattle.line.proofs.Lines.{lt-or-ge}
 use Rattle.tile.proofs.Parts.{part-length}
 use Rattle.tile.proofs.Stretches.{Left, tile-after}
@@ -44,7 +44,7 @@ refused-after c n = rw (ne-eqb (answer c) 0 n)
 
 module _ (s : Squeeze) (fs : Fitting s) (cut : Cut s) where
   -- the part of tile t of strip k
-  abbrev pub partOf : ℕ → ℕ → List ℤ
+  abbrev partOf : ℕ → ℕ → List ℤ
   partOf k t = tileOut s (cut .strip k) t
 
   pub record Holds (state : State) : Type 0 where
@@ -123,18 +123,9 @@ module _ (s : Squeeze) (fs : Fitting s) (cut : Cut s) where
   all-hold [] state a h = h
   all-hold (e ∷ es) state a h = all-hold es (happens s cut e state) (a .1) (holds e state (a .0) h)
 
-  -- slices of the right lengths, whatever they hold, and no tile run yet
-  pub record Begins (state : State) : Type 0 where
-    pub long : (k t : ℕ) → k < cut .strips → t < cut .strip k .tiles → length (state .slices k t) ≡ cut .strip k .lines * tileSize s (cut .strip k) t
-    pub none : (k : ℕ) → state .done k ≡ 0
-
-  -- all tiles of all strips have run
-  abbrev pub AllRan : State → Type 0
-  AllRan state = (k : ℕ) → k < cut .strips → state .done k ≡ cut .strip k .tiles
-
-  -- Demand 3: "the tile calls together give exactly the samples of 01's uncut squeeze, each in its place, whatever refused calls stand between them"
-  pub tiles-together : (es : List Event) (state : State) → Begins state → allAllowed s cut es state → AllRan (together s cut es state)
-      → (k t : ℕ) → k < cut .strips → t < cut .strip k .tiles → together s cut es state .slices k t ≡ partOf k t
+  -- Demand 3, over a whole list of tile calls
+  pub tiles-together : (es : List Event) (state : State) → Begins s cut state → allAllowed s cut es state → AllRan s cut (together s cut es state)
+      → AllHold s cut (together s cut es state)
   tiles-together es state b a r k t hk ht =
       let begun : Holds state =
       record {

@@ -6,7 +6,7 @@ use mathlib.Core.List.{List, [], _∷_}
 use Prim.Native.Nat.{ℕ, zero, suc, _+_, _-_, _*_, _<_, _≤_}
 use lib.Dec.{eqb, ltb}
 use lib.IntN.{ℤ, pos}
-use lib.ListN.{getD, take, drop}
+use lib.ListN.{length, getD, take, drop}
 use Rattle.tile.specs.declared.Sides.{Sides}
 use Rattle.line.specs.Uncut.{Squeeze, place, lineAt, positionAt, size, table, uncut}
 use Rattle.tile.specs.Call.{Call, maxSide, maxSamples, answer, after}
@@ -163,3 +163,16 @@ allowed s cut (other k t c) state = answer (on c (state .slices k t)) ≡ 0 → 
 abbrev pub allAllowed : (s : Squeeze) → Cut s → List Event → State → Type 0
 allAllowed s cut [] state = Unit {0}
 allAllowed s cut (e ∷ es) state = allowed s cut e state × allAllowed s cut es (happens s cut e state)
+
+-- at the start: slices of the right lengths, whatever they hold, and no tile has run
+pub record Begins (s : Squeeze) (cut : Cut s) (state : State) : Type 0 where
+  pub long : (k t : ℕ) → k < cut .strips → t < cut .strip k .tiles → length (state .slices k t) ≡ cut .strip k .lines * tileSize s (cut .strip k) t
+  pub none : (k : ℕ) → state .done k ≡ 0
+
+-- at the end: each tile of each strip has run
+abbrev pub AllRan : (s : Squeeze) → Cut s → State → Type 0
+AllRan s cut state = (k : ℕ) → k < cut .strips → state .done k ≡ cut .strip k .tiles
+
+-- "the tile calls together give exactly the samples of 01's uncut squeeze, each in its place"
+abbrev pub AllHold : (s : Squeeze) → Cut s → State → Type 0
+AllHold s cut state = (k t : ℕ) → k < cut .strips → t < cut .strip k .tiles → state .slices k t ≡ tileOut s (cut .strip k) t
