@@ -283,6 +283,22 @@ module _ (s : Step) (cs : List Channel) (inside : s .begin + s .number ≤ lengt
         ∙ rw (range-averages h r (p .pa) (p .pr) (p .shape-a) (p .shape-r) (p .all-a) (p .all-r), range-residuals h r (p .pa) (p .pr) (p .shape-a) (p .shape-r) (p .all-a) (p .all-r))
         (sym (p .whole)))
 
+  -- the averages and the residuals among the parts have the shapes that the step gives them
+  pub step-shapes : (ps : List (List ℤ)) → Shaped (stepped s cs) ps → AllSamples ps
+      → Shaped (map (average (s .horizontal)) (range s cs)) (take (s .number) (drop (s .begin) ps))
+      × Shaped (map (residual (s .horizontal)) (range s cs)) (residualParts s cs (drop (s .begin + s .number) ps))
+  step-shapes ps h f =
+      let p = steps ps h f in
+      let r = range s cs in
+      let v = arranged (s .inplace) (p .pr) (p .pz) in
+      let nb = shaped-length (before s cs) (p .pb) (p .shape-b) ∙ length-before in
+      let na = shaped-length (map (average (s .horizontal)) r) (p .pa) (p .shape-a) ∙ map-count (average (s .horizontal)) r ∙ length-range in
+      let nr = shaped-length (map (residual (s .horizontal)) r) (p .pr) (p .shape-r) ∙ map-count (residual (s .horizontal)) r ∙ length-range in
+      let nz = shaped-length (after s cs) (p .pz) (p .shape-z) ∙ length-after in (
+        rw (p .whole, middle (p .pb) (p .pa) (p .pr) (p .pz) nb na v) (p .shape-a),
+        rw (p .whole, skip (p .pb) (p .pa) (p .pr) (p .pz) nb na v, residuals-in (p .pb) (p .pa) (p .pr) (p .pz) nb na nr nz) (p .shape-r),
+      )
+
   -- ---- on slices
   module _ (xs : List ℤ) (long : length xs ≡ total cs) (f : Samples xs) where
     the-pieces : Pieces (parts cs xs)

@@ -1,3 +1,4 @@
 pub mod Parts
 pub mod Runs
 pub mod Claim
+pub mod Unbounded

@@ -34,11 +34,15 @@ unfoldable pub channelResiduals : Bool → Channel → List ℤ → List ℤ
 channelResiduals horizontal c xs = residualsOf horizontal (linesOf horizontal c) (sizeOf horizontal c) xs
 
 -- ---- the channels of a range
+-- each channel made from its average and its residual by f
+abbrev pub allBackBy : (Channel → List ℤ → List ℤ → List ℤ) → List Channel → List (List ℤ) → List (List ℤ) → List (List ℤ)
+allBackBy f [] avgs ress = []
+allBackBy f (c ∷ cs) [] ress = []
+allBackBy f (c ∷ cs) (a ∷ avgs) [] = []
+allBackBy f (c ∷ cs) (a ∷ avgs) (r ∷ ress) = f c a r ∷ allBackBy f cs avgs ress
+
 abbrev pub allBack : Bool → List Channel → List (List ℤ) → List (List ℤ) → List (List ℤ)
-allBack horizontal [] avgs ress = []
-allBack horizontal (c ∷ cs) [] ress = []
-allBack horizontal (c ∷ cs) (a ∷ avgs) [] = []
-allBack horizontal (c ∷ cs) (a ∷ avgs) (r ∷ ress) = channelBack horizontal c a r ∷ allBack horizontal cs avgs ress
+allBack horizontal = allBackBy (channelBack horizontal)
 
 abbrev pub each : (Channel → List ℤ → List ℤ) → List Channel → List (List ℤ) → List (List ℤ)
 each f [] ps = []
@@ -58,11 +62,14 @@ abbrev pub otherParts : Step → List Channel → List (List ℤ) → List (List
 otherParts s cs rest = cond (s .inplace) (drop (s .number) rest) (take (behind s cs) rest)
 
 -- "Back, a step makes each channel of its range from average and residual .. and copies the others, placed as in the list before"
-unfoldable pub backParts : Step → List Channel → List (List ℤ) → List (List ℤ)
-backParts s cs ps =
+abbrev pub backPartsBy : (Channel → List ℤ → List ℤ → List ℤ) → Step → List Channel → List (List ℤ) → List (List ℤ)
+backPartsBy f s cs ps =
     take (s .begin) ps
-    ++ (allBack (s .horizontal) (range s cs) (take (s .number) (drop (s .begin) ps)) (residualParts s cs (drop (s .begin + s .number) ps))
+    ++ (allBackBy f (range s cs) (take (s .number) (drop (s .begin) ps)) (residualParts s cs (drop (s .begin + s .number) ps))
     ++ otherParts s cs (drop (s .begin + s .number) ps))
+
+unfoldable pub backParts : Step → List Channel → List (List ℤ) → List (List ℤ)
+backParts s cs ps = backPartsBy (channelBack (s .horizontal)) s cs ps
 
 -- "Forward, averages are the writer's .."
 unfoldable pub forwardParts : Step → List Channel → List (List ℤ) → List (List ℤ)
