@@ -1,0 +1,13 @@
+pub mod Turns
+pub mod Length
+pub mod Appended
+pub mod Packed
+pub mod Counts
+pub mod Leading
+pub mod Parts
+pub mod Flags
+pub mod Form
+pub mod Runs
+pub mod Reached
+pub mod Answers
+pub mod Rows

@@ -1,0 +1,53 @@
+-- Steps one after the other (`judgeSteps` and `steppedAll` of specs/Plans.antt): the steps of two plans joined, the sample total, which stays, and an
+-- accepted plan, which leaves an accepted list. Assumes nothing.
+use mathlib.Core.Bool.{Bool, true, false}
+use mathlib.Core.Path.{_≡_, refl, _∙_}
+use mathlib.Core.List.{List, [], _∷_, _++_}
+use Prim.Native.Nat.{ℕ}
+use lib.Dec.{eqb}
+use borrow.Author.Tests.{eqb-true, eqb-false}
+use Rattle.channel.specs.declared.Channel.{Channel}
+use Rattle.list.specs.declared.Step.{Step}
+use Rattle.list.specs.Lists.{stepped, total}
+use Rattle.list.specs.Questions.{ask, judgeStep}
+use Rattle.list.specs.Accepted.{Accepted}
+use Rattle.list.proofs.Acceptance.{step-accepted}
+use Rattle.list.proofs.Totals.{stepped-total}
+use Rattle.list.proofs.Kept.{stepped-allowed}
+use Rattle.plan.specs.Plans.{judgeSteps, steppedAll}
+
+-- ---- two plans joined: the second is judged on the list that the first one leaves
+pub stepped-append : (ss ts : List Step) (cs : List Channel) → steppedAll (ss ++ ts) cs ≡ steppedAll ts (steppedAll ss cs)
+stepped-append [] ts cs = refl
+stepped-append (s ∷ ss) ts cs = stepped-append ss ts (stepped s cs)
+
+pub judge-append : (ss ts : List Step) (cs : List Channel)
+    → judgeSteps (ss ++ ts) cs ≡ ask (eqb (judgeSteps ss cs) 0) (judgeSteps ss cs) (judgeSteps ts (steppedAll ss cs))
+judge-append [] ts cs = refl
+judge-append (s ∷ ss) ts cs = go (eqb (judgeStep s cs) 0) refl (judge-append ss ts (stepped s cs))
+  where
+    go : (t : Bool) → eqb (judgeStep s cs) 0 ≡ t
+        → judgeSteps (ss ++ ts) (stepped s cs)
+        ≡ ask (eqb (judgeSteps ss (stepped s cs)) 0) (judgeSteps ss (stepped s cs)) (judgeSteps ts (steppedAll ss (stepped s cs)))
+        → judgeSteps (s ∷ ss ++ ts) cs ≡ ask (eqb (judgeSteps (s ∷ ss) cs) 0) (judgeSteps (s ∷ ss) cs) (judgeSteps ts (steppedAll (s ∷ ss) cs))
+    go true e h = rw e h
+    go false e h = rw (e, e)
+
+-- ---- the samples stay
+pub steps-total : (ss : List Step) (cs : List Channel) → total (steppedAll ss cs) ≡ total cs
+steps-total [] cs = refl
+steps-total (s ∷ ss) cs = steps-total ss (stepped s cs) ∙ stepped-total s cs
+
+-- ---- an accepted plan
+pub none-refused : (a b : ℕ) → ask (eqb a 0) a b ≡ 0 → (a ≡ 0) × (b ≡ 0)
+none-refused a b h = go (eqb a 0) refl h
+  where
+    go : (t : Bool) → eqb a 0 ≡ t → ask t a b ≡ 0 → (a ≡ 0) × (b ≡ 0)
+    go true e h = (eqb-true a 0 e, h)
+    go false e h = absurd (eqb-false a 0 e h)
+
+pub plan-accepted : (ss : List Step) (cs : List Channel) → Accepted cs → judgeSteps ss cs ≡ 0 → Accepted (steppedAll ss cs)
+plan-accepted [] cs ok h = ok
+plan-accepted (s ∷ ss) cs ok h =
+    let a = none-refused (judgeStep s cs) (judgeSteps ss (stepped s cs)) h in
+    plan-accepted ss (stepped s cs) (stepped-allowed s cs (step-accepted s cs (a .0)) ok) (a .1)

@@ -1,0 +1,77 @@
+-- A plan on a list: the questions 3 to 11 in document 01's order, and the list that the plan leaves. Definitions only.
+use mathlib.Core.Bool.{Bool, true, cond, _&&_}
+use mathlib.Core.List.{List, [], _∷_}
+use Prim.Native.Nat.{ℕ}
+use lib.Dec.{eqb, leb, ltb}
+use lib.ListN.{length}
+use Rattle.channel.specs.declared.Channel.{Channel}
+use Rattle.list.specs.declared.ChannelList.{ChannelList}
+use Rattle.list.specs.declared.Step.{Step}
+use Rattle.list.specs.declared.Stepped.{Stepped}
+use Rattle.list.specs.Lists as Lists
+use Rattle.list.specs.Lists.{maxSteps, channels, stepped}
+use Rattle.list.specs.Tables.{all}
+use Rattle.list.specs.Questions.{ask, countAllowed, channelsAllowed, totalAllowed, judgeList, judgeStep}
+use Rattle.plan.specs.declared.Steps.{Steps}
+use Rattle.plan.specs.declared.Planned.{Planned}
+use Rattle.plan.specs.Steps as S
+use Rattle.plan.specs.Steps.{steps, allFlags, flagsAllowed}
+use Rattle.plan.specs.Default.{stoppingSide, metaCount, defaultSteps}
+
+-- 7 to 11, "For each step on the list as it then is": the first refusal, and the list that steps leave
+abbrev pub judgeSteps : List Step → List Channel → ℕ
+judgeSteps [] cs = 0
+judgeSteps (s ∷ ss) cs = ask (eqb (judgeStep s cs) 0) (judgeStep s cs) (judgeSteps ss (stepped s cs))
+
+abbrev pub steppedAll : List Step → List Channel → List Channel
+steppedAll [] cs = cs
+steppedAll (s ∷ ss) cs = steppedAll ss (stepped s cs)
+
+-- 6. "Default plan: is there a channel that is not meta? No: 11"
+unfoldable pub hasOther : List Channel → Bool
+hasOther cs = ltb (metaCount cs) (length cs)
+
+-- "An empty list of steps means the default plan."
+unfoldable pub meant : List Step → List Channel → List Step
+meant [] cs = defaultSteps stoppingSide cs
+meant (s ∷ ss) cs = s ∷ ss
+
+unfoldable pub meantAllowed : List Step → List Channel → Bool
+meantAllowed [] cs = hasOther cs
+meantAllowed (s ∷ ss) cs = true
+
+-- 3 to 5 of a list and a plan
+unfoldable pub judgeForm : ChannelList → Steps → ℕ
+judgeForm l s =
+    ask (countAllowed (l .count) && leb (s .count) maxSteps) 3
+    (ask (channelsAllowed (channels l) && all flagsAllowed (allFlags s)) 4
+    (ask (totalAllowed (channels l)) 5 0))
+
+-- 6 to 11 of steps on a list
+unfoldable pub judgeMeant : List Step → List Channel → ℕ
+judgeMeant ss cs = ask (meantAllowed ss cs) 11 (judgeSteps (meant ss cs) cs)
+
+unfoldable pub judgePlan : ChannelList → Steps → ℕ
+judgePlan l s = ask (eqb (judgeForm l s) 0) (judgeForm l s) (judgeMeant (steps s) (channels l))
+
+-- the answer 0 with the list that is reached, or a refusal's number with the list as it came
+unfoldable pub outcome : ℕ → ChannelList → List Channel → Stepped
+outcome answer l reached = cond (eqb answer 0) (record { answer = 0; list = Lists.packed reached }) (record { answer = answer; list = l })
+
+-- steps on a list that questions 3 to 5 accept
+unfoldable pub ran : List Step → ChannelList → Stepped
+ran ss l = outcome (judgeSteps ss (channels l)) l (steppedAll ss (channels l))
+
+-- a plan on a list
+unfoldable pub rewritten : ChannelList → Steps → Stepped
+rewritten l s = outcome (judgePlan l s) l (steppedAll (meant (steps s) (channels l)) (channels l))
+
+-- the default plan of a list that questions 3 to 6 accept, or the refusal's number without a step
+unfoldable pub judgeDefault : ChannelList → ℕ
+judgeDefault l = ask (eqb (judgeList l) 0) (judgeList l) (ask (hasOther (channels l)) 11 0)
+
+unfoldable pub planned : ChannelList → Planned
+planned l =
+    cond (eqb (judgeDefault l) 0)
+    (record { answer = 0; steps = S.packed (defaultSteps stoppingSide (channels l)) })
+    (record { answer = judgeDefault l; steps = S.packed [] })

@@ -1,0 +1,369 @@
+// Plans (document 01, "The list and the plan"; the Rust's `default_squeeze` and
+// `meta_apply_transforms`): the steps in flat arrays, the default plan, the run
+// of a plan over a list, and the coarse count. Total.
+ghost use mathlib.Core.Path.{_≡_};
+ghost use mathlib.Core.List.{[]};
+ghost use Prim.Native.Nat.{_+_, _<_, _≤_};
+ghost use lib.ListN.{length};
+ghost use Rattle.list.specs.Tables.{all};
+ghost use Rattle.list.specs.Lists.{maxChannels, maxSteps, channels, packed, halved};
+ghost use Rattle.list.specs.Questions.{judgeList};
+ghost use Rattle.plan.specs.Steps as Spec;
+ghost use Rattle.plan.specs.Adding.{pushed, appended};
+ghost use Rattle.plan.specs.Default as Default;
+ghost use Rattle.plan.specs.Plans as Plans;
+use channel::Channel;
+use list::ChannelList;
+use list::Step;
+use list::Stepped;
+
+// The refusals of questions 3, 4 and 6.
+const REFUSED_NUMBERS: u32 = 3;
+
+const REFUSED_FORM: u32 = 4;
+
+const REFUSED_DEFAULT: u32 = 11;
+
+pub struct Steps {
+    pub count: usize,
+    pub flags: [u8; 64],
+    pub begins: [u16; 64],
+    pub numbers: [u16; 64],
+}
+
+// The answer 0 with a plan, or a refusal's number without a step.
+pub struct Planned {
+    pub answer: u32,
+    pub steps: Steps,
+}
+
+// "flags 1 (bit 0 horizontal, bit 1 in place)".
+fn flags_of(step: Step) -> u8
+    ensures { λ r. ⌜ r ≡ Spec.flagsOf step ⌝ }
+{
+    (step.horizontal as u8) + 2 * (step.inplace as u8)
+}
+
+impl Steps {
+    // The side above which the default plan goes on, and up to which a channel
+    // is coarse (the Rust's `MAX_FIRST_PREVIEW_SIZE`).
+    pub const STOPPING_SIDE: u16 = 8;
+
+    // The flags of a step that is horizontal and in place.
+    const ALL_FLAGS: u8 = 3;
+
+    pub fn empty() -> Self
+        ensures { λ r. ⌜ r ≡ Spec.packed [] ⌝ }
+    {
+        Steps {
+            count: 0,
+            flags: [0u8; 64],
+            begins: [0u16; 64],
+            numbers: [0u16; 64],
+        }
+    }
+
+    // Entry `k`; zeros past the arrays.
+    pub fn step(self, k: usize) -> Step
+        ensures { λ r. ⌜ r ≡ Spec.stepAt self k ⌝ }
+    {
+        if ChannelList::MAX_STEPS <= k {
+            return Step {
+                horizontal: false,
+                inplace: false,
+                begin: 0,
+                number: 0,
+            };
+        }
+        let flags = self.flags[k];
+        let begin = self.begins[k];
+        let number = self.numbers[k];
+        Step {
+            horizontal: flags % 2 == 1,
+            inplace: flags / 2 % 2 == 1,
+            begin,
+            number,
+        }
+    }
+
+    // `step` after the last one.
+    fn push(self, step: Step) -> Self
+        requires { ⌜ self .count < maxSteps ⌝ }
+        ensures { λ r. ⌜ r ≡ pushed self step ⌝ }
+    {
+        let k = self.count;
+        let mut next = self;
+        next.flags[k] = flags_of(step);
+        next.begins[k] = step.begin;
+        next.numbers[k] = step.number;
+        next.count = k + 1;
+        next
+    }
+
+    fn push_if(self, test: bool, step: Step) -> Self
+        requires { ⌜ self .count + length (Default.when test step) ≤ maxSteps ⌝ }
+        ensures { λ r. ⌜ r ≡ appended self (Default.when test step) ⌝ }
+    {
+        if test { self.push(step) } else { self }
+    }
+}
+
+fn halved(side: u16) -> u16
+    ensures { λ r. ⌜ r ≡ halved side ⌝ }
+{
+    side - side / 2
+}
+
+fn lowered(side: u16) -> u16
+    ensures { λ r. ⌜ r ≡ Default.lowered Default.stoppingSide side ⌝ }
+{
+    if Steps::STOPPING_SIDE < side {
+        halved(side)
+    } else {
+        side
+    }
+}
+
+// The turns of the default plan after `plan`: in-place steps on all `n`
+// channels from `m` on while a side of the first is above the stopping side.
+fn rounds(plan: Steps, m: u16, n: u16, w: u16, h: u16) -> Steps
+    requires { ⌜ plan .count + length (Default.rounds (w + h) Default.stoppingSide m n w h) ≤ maxSteps ⌝ }
+    ensures { λ r. ⌜ r ≡ appended plan (Default.rounds (w + h) Default.stoppingSide m n w h) ⌝ }
+{
+    let horizontal = Step {
+        horizontal: true,
+        inplace: true,
+        begin: m,
+        number: n,
+    };
+    let vertical = Step {
+        horizontal: false,
+        inplace: true,
+        begin: m,
+        number: n,
+    };
+    let mut steps = plan;
+    let mut width = w;
+    let mut height = h;
+    while (Steps::STOPPING_SIDE < width) | (Steps::STOPPING_SIDE < height) {
+        steps = steps
+            .push_if(Steps::STOPPING_SIDE < width, horizontal)
+            .push_if(Steps::STOPPING_SIDE < height, vertical);
+        width = lowered(width);
+        height = lowered(height);
+    }
+    steps
+}
+
+// The in-place steps of the default plan after `plan`: vertical first on tall
+// pictures, then the turns.
+fn all_channels(plan: Steps, m: u16, n: u16, w: u16, h: u16) -> Steps
+    requires { ⌜ plan .count + length (Default.allChannels Default.stoppingSide m n w h) ≤ maxSteps ⌝ }
+    ensures { λ r. ⌜ r ≡ appended plan (Default.allChannels Default.stoppingSide m n w h) ⌝ }
+{
+    if (w <= h) & (Steps::STOPPING_SIDE < h) {
+        let vertical = Step {
+            horizontal: false,
+            inplace: true,
+            begin: m,
+            number: n,
+        };
+        return rounds(plan.push(vertical), m, n, w, halved(h));
+    }
+    rounds(plan, m, n, w, h)
+}
+
+// The chroma steps of the default plan after `plan`: on the second and third of
+// `n` channels from `m` on, where the second is `w` by `h` as the first is.
+fn chroma(plan: Steps, m: u16, n: u16, w: u16, h: u16, second: Channel) -> Steps
+    requires { ⌜ (plan .count + 2 ≤ maxSteps) × (m < maxChannels) ⌝ }
+    ensures { λ r. ⌜ r ≡ appended plan (Default.chroma m n w h second) ⌝ }
+{
+    let begin = m + 1;
+    let horizontal = Step {
+        horizontal: true,
+        inplace: false,
+        begin,
+        number: 2,
+    };
+    let vertical = Step {
+        horizontal: false,
+        inplace: false,
+        begin,
+        number: 2,
+    };
+    let alike = (2 < n) & (second.width == w) & (second.height == h);
+    plan.push_if(alike & (1 < w), horizontal)
+        .push_if(alike & (1 < h), vertical)
+}
+
+// m, the leading meta channels.
+fn meta_count(list: ChannelList) -> usize
+    ensures { λ r. ⌜ r ≡ Default.metaCount (channels list) ⌝ }
+{
+    let count = list.count;
+    for k in 0..ChannelList::MAX_CHANNELS {
+        let c = list.channel(k);
+        if (count <= k) | !c.is_meta() {
+            return k;
+        }
+    }
+    ChannelList::MAX_CHANNELS
+}
+
+// The default plan of a list with a channel that is not meta.
+fn default_steps(list: ChannelList) -> Steps
+    requires { ⌜ (list .count ≤ maxChannels) × (Default.metaCount (channels list) < list .count) ⌝ }
+    ensures { λ r. ⌜ r ≡ Spec.packed (Default.defaultSteps Default.stoppingSide (channels list)) ⌝ }
+    ensures room { λ r. ⌜ r .count ≤ maxSteps ⌝ }
+{
+    let metas = meta_count(list);
+    let first = list.channel(metas);
+    let second = list.channel(metas + 1);
+    let m = metas as u16;
+    let n = (list.count - metas) as u16;
+    let w = first.width;
+    let h = first.height;
+    let steps = chroma(Steps::empty(), m, n, w, h, second);
+    all_channels(steps, m, n, w, h)
+}
+
+// The default plan of a list that passes questions 3 to 6.
+pub fn default_squeeze(list: ChannelList) -> Planned
+    ensures { λ r. ⌜ r ≡ Plans.planned list ⌝ }
+    ensures room { λ r. ⌜ r .steps .count ≤ maxSteps ⌝ }
+{
+    let answer = list.judge();
+    if answer != 0 {
+        return Planned {
+            answer,
+            steps: Steps::empty(),
+        };
+    }
+    if list.count <= meta_count(list) {
+        return Planned {
+            answer: REFUSED_DEFAULT,
+            steps: Steps::empty(),
+        };
+    }
+    Planned {
+        answer: 0,
+        steps: default_steps(list),
+    }
+}
+
+fn is_coarse(channel: Channel) -> bool
+    ensures { λ r. ⌜ r ≡ Default.isCoarse Default.stoppingSide channel ⌝ }
+{
+    (channel.width <= Steps::STOPPING_SIDE) & (channel.height <= Steps::STOPPING_SIDE)
+}
+
+// The coarse count of a rewritten list.
+pub fn coarse_count(list: ChannelList) -> usize
+    ensures { λ r. ⌜ r ≡ Default.coarseCount Default.stoppingSide (channels list) ⌝ }
+{
+    let count = list.count;
+    for k in 0..ChannelList::MAX_CHANNELS {
+        let c = list.channel(k);
+        if (count <= k) | !is_coarse(c) {
+            return k;
+        }
+    }
+    ChannelList::MAX_CHANNELS
+}
+
+// Question 4, of the steps' flags.
+fn flags_allowed(steps: Steps) -> bool
+    requires { ⌜ steps .count ≤ maxSteps ⌝ }
+    ensures { λ r. ⌜ r ≡ all Spec.flagsAllowed (Spec.allFlags steps) ⌝ }
+{
+    let count = steps.count;
+    for k in 0..count {
+        if Steps::ALL_FLAGS < steps.flags[k] {
+            return false;
+        }
+    }
+    true
+}
+
+// Questions 3 to 5, of a list and a plan.
+fn judge_form(list: ChannelList, steps: Steps) -> u32
+    ensures { λ r. ⌜ r ≡ Plans.judgeForm list steps ⌝ }
+{
+    let answer = list.judge();
+    if (answer == REFUSED_NUMBERS) | !(steps.count <= ChannelList::MAX_STEPS) {
+        return REFUSED_NUMBERS;
+    }
+    if (answer == REFUSED_FORM) | !flags_allowed(steps) {
+        return REFUSED_FORM;
+    }
+    answer
+}
+
+// The list with its unused entries 0.
+fn tidied(list: ChannelList) -> ChannelList
+    requires { ⌜ list .count ≤ maxChannels ⌝ }
+    ensures { λ r. ⌜ r ≡ packed (channels list) ⌝ }
+{
+    let count = list.count;
+    let mut widths = [0u16; 256];
+    let mut heights = [0u16; 256];
+    let mut hshifts = [0u8; 256];
+    let mut vshifts = [0u8; 256];
+    for k in 0..count {
+        let c = list.channel(k);
+        widths[k] = c.width;
+        heights[k] = c.height;
+        hshifts[k] = c.hshift;
+        vshifts[k] = c.vshift;
+    }
+    ChannelList {
+        count,
+        widths,
+        heights,
+        hshifts,
+        vshifts,
+    }
+}
+
+// Questions 7 to 11 of each step on a list that passes questions 3 to 5, and
+// the list that the steps leave.
+fn run(list: ChannelList, steps: Steps) -> Stepped
+    requires { ⌜ (judgeList list ≡ 0) × (steps .count ≤ maxSteps) ⌝ }
+    ensures { λ r. ⌜ r ≡ Plans.ran (Spec.steps steps) list ⌝ }
+{
+    let count = steps.count;
+    let mut now = tidied(list);
+    for k in 0..count {
+        let stepped = now.step(steps.step(k));
+        let answer = stepped.answer;
+        if answer != 0 {
+            return Stepped { answer, list };
+        }
+        now = stepped.list;
+    }
+    Stepped {
+        answer: 0,
+        list: now,
+    }
+}
+
+// Questions 3 to 11 of a plan on a list, and the list that the plan leaves; no
+// steps mean the default plan.
+pub fn rewrite(list: ChannelList, steps: Steps) -> Stepped
+    ensures { λ r. ⌜ r ≡ Plans.rewritten list steps ⌝ }
+{
+    let answer = judge_form(list, steps);
+    if answer != 0 {
+        return Stepped { answer, list };
+    }
+    if steps.count != 0 {
+        return run(list, steps);
+    }
+    let planned = default_squeeze(list);
+    let answer = planned.answer;
+    if answer != 0 {
+        return Stepped { answer, list };
+    }
+    run(list, planned.steps)
+}

@@ -1,0 +1,146 @@
+-- Reading field by field: the arrays hold the channels and the steps read so far, and the fields that are left complete the form.
+-- Assumes nothing.
+use mathlib.Core.Path.{_≡_, refl, sym, ap, _∙_}
+use mathlib.Core.Bool.{Bool, true, false, cond}
+use mathlib.Core.List.{List, [], _∷_, _++_}
+use Prim.Native.Nat.{ℕ, zero, suc, _+_, _-_, _<_, _≤_}
+use native.Mathlib.Omega.{arith}
+use lib.Dec.{eqb}
+use lib.ListN.{length, take, drop, length-drop, drop-of-length-le}
+use lib.Seq.{take-all, drop-drop}
+use borrow.Author.Tests.{eq-eqb, ne-eqb, le-leb, lt-leb}
+use Rattle.channel.specs.declared.Channel.{Channel}
+use Rattle.channel.specs.Channel.{isMeta}
+use Rattle.list.specs.declared.ChannelList.{ChannelList}
+use Rattle.list.specs.declared.Step.{Step}
+use Rattle.list.specs.Tables.{all}
+use Rattle.list.specs.Lists as Lists
+use Rattle.plan.specs.declared.Steps.{Steps}
+use Rattle.plan.specs.Steps as S
+use Rattle.plan.specs.Adding.{pushed}
+use Rattle.plan.proofs.Packed.{packed-count, pushed-packed}
+use Rattle.record.specs.Bytes.{channelSize, stepSize}
+use Rattle.record.specs.Reading.{refused, asked, channelOf, stepOf, isStep, judgeField, finished, answerOf, readFields, formOf}
+use Rattle.record.specs.Adding.{withChannel}
+use Rattle.record.specs.Records.{packedForm}
+use Rattle.record.proofs.Pushed.{metas-pushed, list-pushed, list-count}
+use Rattle.record.proofs.Fields.{is-step, is-channel, step-allowed, channel-allowed}
+
+-- cs and ss were read from the bytes before `at`, and `turns` are enough for those from there on
+pub record Held (bytes : List ℕ) (list : ChannelList) (steps : Steps) (metas : Bool) (at : ℕ) : Type 0 where
+  pub cs : List Channel
+  pub ss : List Step
+  pub turns : ℕ
+  pub list-is : list ≡ Lists.packed cs
+  pub steps-are : steps ≡ S.packed ss
+  pub metas-are : metas ≡ all isMeta cs
+  pub inside : at ≤ length bytes
+  pub enough : length bytes ≤ at + turns
+  pub so : readFields turns (drop at bytes) cs ss ≡ formOf bytes
+
+pub held-none : (bytes : List ℕ) (list : ChannelList) (steps : Steps) → list ≡ Lists.packed [] → steps ≡ S.packed [] → Held bytes list steps true 0
+unfolding formOf
+held-none bytes list steps el es =
+    record {
+      cs = [];
+      ss = [];
+      turns = length bytes;
+      list-is = el;
+      steps-are = es;
+      metas-are = refl;
+      inside = omega arith;
+      enough = omega arith;
+      so = refl;
+    }
+
+module _ (bytes : List ℕ) (list : ChannelList) (steps : Steps) (metas : Bool) (at : ℕ) (w : Held bytes list steps metas at) where
+  count-is : list .count ≡ length (w .cs)
+  count-is = ap (λ (l : ChannelList). l .count) (w .list-is) ∙ list-count (w .cs)
+
+  steps-count : steps .count ≡ length (w .ss)
+  steps-count = packed-count steps (w .ss) (w .steps-are)
+
+  -- no field is left
+  module _ (h : length bytes ≤ at) where
+    done : formOf bytes ≡ finished (w .cs) (w .ss)
+    done = sym (w .so) ∙ rw (drop-of-length-le bytes h) (go (w .turns))
+      where
+        go : (t : ℕ) → readFields t [] (w .cs) (w .ss) ≡ finished (w .cs) (w .ss)
+        go zero = refl
+        go (suc t) = refl
+
+    pub form-missing : list .count ≡ 0 → formOf bytes ≡ refused 3
+    form-missing z = done ∙ rw (lt-leb 1 (length (w .cs)) (omega (arith, count-is)))
+
+    pub form-all : (list .count ≡ 0 → ⊥) → record { answer = 0; list = list; steps = steps } ≡ packedForm (formOf bytes)
+    unfolding packedForm
+    form-all z = rw (done, le-leb 1 (length (w .cs)) (omega (arith, count-is)), w .list-is, w .steps-are)
+
+  -- a field
+  module _ (h : at < length bytes) (field : List ℕ) (ef : field ≡ take (length bytes - at) (drop at bytes))
+      (answer : ℕ) (ea : answer ≡ judgeField field (list .count) metas (steps .count)) where
+    whole : field ≡ drop at bytes
+    whole = ef ∙ take-all (length bytes - at) (drop at bytes) (omega (arith, length-drop at bytes))
+
+    judged : answer ≡ answerOf field (w .cs) (w .ss)
+    judged = ea ∙ rw (count-is, w .metas-are, steps-count)
+
+    turn : (t : ℕ) → readFields (suc t) field (w .cs) (w .ss)
+        ≡ asked (eqb answer 0) answer
+        (cond (isStep field)
+        (readFields t (drop stepSize field) (w .cs) (w .ss ++ (stepOf field ∷ [])))
+        (readFields t (drop channelSize field) (w .cs ++ (channelOf field ∷ [])) (w .ss)))
+    turn t =
+        let n : length field ≡ 0 → ⊥ = λ e. omega (arith, length-drop at bytes, ap length whole) in
+        rw (ne-eqb (length field) 0 n, ← judged)
+
+    more : (t : ℕ) × (w .turns ≡ suc t) × (readFields (suc t) field (w .cs) (w .ss) ≡ formOf bytes)
+    more = go (w .turns) refl (w .enough) (rw whole (w .so))
+      where
+        go : (t : ℕ) → w .turns ≡ t → length bytes ≤ at + t → readFields t field (w .cs) (w .ss) ≡ formOf bytes
+            → (s : ℕ) × (w .turns ≡ suc s) × (readFields (suc s) field (w .cs) (w .ss) ≡ formOf bytes)
+        go zero et l e = absurd (omega arith)
+        go (suc t) et l e = (t, et, e)
+
+    pub form-refused : (answer ≡ 0 → ⊥) → formOf bytes ≡ refused answer
+    form-refused z = sym (more .2) ∙ turn (more .0) ∙ rw (ne-eqb answer 0 z)
+
+    module _ (z : answer ≡ 0) where
+      accepted : judgeField field (length (w .cs)) (all isMeta (w .cs)) (length (w .ss)) ≡ 0
+      accepted = sym judged ∙ z
+
+      next : (n : ℕ) → drop n field ≡ drop (at + n) bytes
+      next n = ap (drop n) whole ∙ drop-drop n at bytes
+
+      pub held-step : (s : Steps) → isStep field ≡ true → s ≡ pushed steps (stepOf field) → Held bytes list s metas (at + stepSize)
+      held-step s k es =
+          let f = is-step field _ _ _ accepted k in
+          let l = step-allowed field _ (f .judged) in
+          record {
+            cs = w .cs;
+            ss = w .ss ++ stepOf field ∷ [];
+            turns = more .0;
+            list-is = w .list-is;
+            steps-are = es ∙ rw (w .steps-are) (pushed-packed (w .ss) (stepOf field) (l .0));
+            metas-are = w .metas-are;
+            inside = omega (arith, f .long, length-drop at bytes, ap length whole);
+            enough = omega (arith, w .enough, more .1);
+            so = rw (← next stepSize) (sym (turn (more .0) ∙ rw (eq-eqb answer 0 z, k)) ∙ more .2);
+          }
+
+      pub held-channel : (l : ChannelList) (c : Channel) (m : Bool) → isStep field ≡ false → c ≡ channelOf field → l ≡ withChannel list c → m ≡ isMeta c
+          → Held bytes l steps m (at + channelSize)
+      held-channel l c m k ec el em =
+          let f = is-channel field _ _ _ accepted k in
+          let a = channel-allowed field _ _ (f .judged) in
+          record {
+            cs = w .cs ++ channelOf field ∷ [];
+            ss = w .ss;
+            turns = more .0;
+            list-is = el ∙ rw (ec, w .list-is) (list-pushed (w .cs) (channelOf field) (a .0));
+            steps-are = w .steps-are;
+            metas-are = em ∙ rw ec (metas-pushed (w .cs) (channelOf field) (a .1));
+            inside = omega (arith, f .long, length-drop at bytes, ap length whole);
+            enough = omega (arith, w .enough, more .1);
+            so = rw (← next channelSize) (sym (turn (more .0) ∙ rw (eq-eqb answer 0 z, k)) ∙ more .2);
+          }

@@ -1,0 +1,97 @@
+-- The answer to questions 3 to 11 (`judgePlan` of Rattle.plan.specs.Plans): where the code finds it, and what the answer 0 says. Assumes nothing.
+use mathlib.Core.Path.{_≡_, refl, ap, _∙_}
+use mathlib.Core.Bool.{Bool, true, false, and-eq-true-iff}
+use mathlib.Core.List.{List}
+use Prim.Native.Nat.{ℕ, zero, suc, _+_, _<_, _≤_, min}
+use native.Mathlib.Omega.{arith}
+use lib.Dec.{eqb}
+use lib.ListN.{length, getD}
+use borrow.Author.Tests.{eqb-true, eqb-false, le-leb}
+use Rattle.list.specs.declared.ChannelList.{ChannelList}
+use Rattle.list.specs.declared.Step.{Step}
+use Rattle.list.specs.declared.Stepped.{Stepped}
+use Rattle.list.specs.Tables.{table, padded, map, all}
+use Rattle.list.specs.Lists as Lists
+use Rattle.list.specs.Lists.{maxChannels, maxSteps, channels}
+use Rattle.list.specs.Questions as Q
+use Rattle.list.specs.Questions.{ask, countAllowed, channelsAllowed, totalAllowed, judgeList}
+use Rattle.list.proofs.Tables.{table-length}
+use Rattle.list.proofs.Acceptance.{count-inside, list-accepted, packed-accepted}
+use Rattle.list.proofs.Asking.{passed}
+use Rattle.list.proofs.Maps.{map-default}
+use Rattle.list.proofs.Filled.{padded-at}
+use Rattle.list.proofs.Packed.{channels-packed}
+use Rattle.plan.specs.declared.Steps.{Steps}
+use Rattle.plan.specs.Steps as S
+use Rattle.plan.specs.Steps.{flagsOf, flagsAllowed}
+use Rattle.plan.specs.Plans as P
+use Rattle.plan.specs.Plans.{judgeForm, judgeMeant, judgePlan, rewritten}
+use Rattle.plan.proofs.Packed.{packed-count, steps-packed}
+use Rattle.plan.proofs.Answers.{form-accepted}
+use Rattle.record.proofs.Flags.{flags-allowed}
+
+-- two rows of questions, the second put where the first refuses nothing
+pub both-passed : (first next : ℕ) → ask (eqb first 0) first next ≡ 0 → (first ≡ 0) × (next ≡ 0)
+both-passed first next h = go (eqb first 0) refl h
+  where
+    go : (b : Bool) → eqb first 0 ≡ b → ask b first next ≡ 0 → (first ≡ 0) × (next ≡ 0)
+    go true e h = (eqb-true first 0 e, h)
+    go false e h = absurd (eqb-false first 0 e h)
+
+all-entries {ℓ} : {A : Type ℓ} (p : A → Bool) (f : ℕ → A) (n : ℕ) → ((i : ℕ) → i < n → p (f i) ≡ true) → (k m : ℕ) → k + m ≤ n → all p (table f k m) ≡ true
+all-entries p f n h k zero l = refl
+all-entries p f n h k (suc m) l = and-eq-true-iff (p (f k)) (all p (table f (suc k) m)) .1 (h k (omega arith), all-entries p f n h (suc k) m (omega arith))
+
+-- a step's flags have no other bit
+flags-fit : (ss : List Step) → all flagsAllowed (S.allFlags (S.packed ss)) ≡ true
+unfolding S.allFlags S.packed S.flagsOf
+flags-fit ss = all-entries flagsAllowed _ maxSteps entry 0 (min (length ss) maxSteps) (omega arith)
+  where
+    none : Step
+    none = record { horizontal = false; inplace = false; begin = 0; number = 0 }
+
+    entry : (i : ℕ) → i < maxSteps → flagsAllowed (getD (padded maxSteps (map flagsOf ss)) i 0) ≡ true
+    entry i h = rw (padded-at maxSteps (map flagsOf ss) i h, map-default flagsOf ss i none) (flags-allowed (getD ss i none))
+
+module _ (l : ChannelList) (s : Steps) where
+  pub plan-answer : (r : Stepped) → r ≡ rewritten l s → r .answer ≡ judgePlan l s
+  unfolding P.rewritten P.outcome
+  plan-answer r e = ap (λ (x : Stepped). x .answer) e ∙ go (eqb (judgePlan l s) 0) refl
+    where
+      go : (b : Bool) → eqb (judgePlan l s) 0 ≡ b → rewritten l s .answer ≡ judgePlan l s
+      go true t = rw (t, eqb-true (judgePlan l s) 0 t)
+      go false t = rw t
+
+  module _ (h : judgePlan l s ≡ 0) where
+    pub judged-parts : (judgeForm l s ≡ 0) × (judgeMeant (S.steps s) (channels l) ≡ 0)
+    unfolding P.judgePlan
+    judged-parts = both-passed (judgeForm l s) _ h
+
+    pub judged-list : judgeList l ≡ 0
+    judged-list = form-accepted l s _ refl (judged-parts .0) .0
+
+    pub judged-counts : (l .count ≤ maxChannels) × (s .count ≤ maxSteps)
+    judged-counts = (count-inside l judged-list .1, form-accepted l s _ refl (judged-parts .0) .1)
+
+    pub steps-few : length (S.steps s) ≤ maxSteps
+    unfolding S.steps
+    steps-few = omega (arith, table-length (S.stepAt s) 0 (min (s .count) maxSteps))
+
+    -- the same list and steps, unused entries 0
+    pub judged-packed : judgePlan (Lists.packed (channels l)) (S.packed (S.steps s)) ≡ 0
+    unfolding P.judgePlan P.judgeForm Q.judgeList
+    judged-packed =
+        let a = list-accepted l judged-list in
+        let p₃ = passed (countAllowed (Lists.packed (channels l) .count)) _ _ (packed-accepted (channels l) a) in
+        let p₄ = passed (channelsAllowed (channels (Lists.packed (channels l)))) _ _ (p₃ .1) in
+        let p₅ = passed (totalAllowed (channels (Lists.packed (channels l)))) _ _ (p₄ .1) in
+        let n : S.packed (S.steps s) .count ≤ maxSteps = omega (arith, steps-few, packed-count (S.packed (S.steps s)) (S.steps s) refl) in
+        rw (
+          p₃ .0,
+          le-leb (S.packed (S.steps s) .count) maxSteps n,
+          p₄ .0,
+          flags-fit (S.steps s),
+          p₅ .0,
+          steps-packed (S.steps s) steps-few,
+          channels-packed (channels l) (a .few),
+        ) (judged-parts .1)

@@ -1,0 +1,11 @@
+pub mod Fields
+pub mod Flags
+pub mod Pushed
+pub mod Held
+pub mod Joined
+pub mod Placed
+pub mod Judged
+pub mod Outcomes
+pub mod Words
+pub mod ReadWritten
+pub mod WrittenRead

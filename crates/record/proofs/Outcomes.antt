@@ -1,0 +1,146 @@
+-- What the reader and the writer give (specs/Records.antt), by the answers that the code has found on the way. Assumes nothing.
+use mathlib.Core.Path.{_≡_, refl, sym, ap, _∙_}
+use mathlib.Core.Bool.{Bool, true, false, cond}
+use mathlib.Core.List.{List, [], _++_}
+use Prim.Native.Nat.{ℕ, zero, suc, _+_, _*_, _<_, _≤_, min}
+use native.Mathlib.Nat.{zero-add}
+use native.Mathlib.Omega.{arith}
+use lib.Dec.{eqb, leb}
+use lib.ListN.{length, drop, length-append}
+use borrow.Author.Tests.{eq-eqb, ne-eqb, le-leb, lt-leb}
+use Rattle.channel.specs.declared.Channel.{Channel}
+use Rattle.list.specs.declared.ChannelList.{ChannelList}
+use Rattle.list.specs.declared.Step.{Step}
+use Rattle.list.specs.declared.Stepped.{Stepped}
+use Rattle.list.specs.Lists.{maxChannels, maxSteps, channels}
+use Rattle.list.proofs.Tables.{table-length}
+use Rattle.plan.specs.declared.Steps.{Steps}
+use Rattle.plan.specs.Steps as S
+use Rattle.plan.specs.Plans.{judgePlan, rewritten}
+use Rattle.plan.proofs.Counts.{counted-all}
+use Rattle.record.specs.declared.Record.{Record}
+use Rattle.record.specs.Bytes.{channelSize, stepSize, channelField, stepField, channelFields, stepFields, recordOf, placed}
+use Rattle.record.specs.Reading.{Form, refused, asked, isStep, finished, answerOf, readFields, formOf}
+use Rattle.record.specs.Records.{packedForm, readAnswer, readOf, recordFor, writeAnswer, writtenOf, writtenBytes}
+use Rattle.record.proofs.Judged.{plan-answer, judged-counts}
+use Rattle.record.proofs.Joined.{channel-size, step-size, joined-length}
+use Rattle.record.proofs.Placed.{placed-more}
+
+-- ---- the reader
+-- a refusal gives no channel and no step
+abbrev Bare : Form → Type 0
+Bare form = (form .answer ≡ 0 → ⊥) → form ≡ refused (form .answer)
+
+asked-bare : (b : Bool) (number : ℕ) (next : Form) → Bare next → Bare (asked b number next)
+asked-bare true number next h z = h z
+asked-bare false number next h z = refl
+
+cond-bare : (b : Bool) (x y : Form) → Bare x → Bare y → Bare (cond b x y)
+cond-bare true x y hx hy = hx
+cond-bare false x y hx hy = hy
+
+finished-bare : (cs : List Channel) (ss : List Step) → Bare (finished cs ss)
+finished-bare cs ss = asked-bare (leb 1 (length cs)) 3 _ (λ z. absurd (z refl))
+
+fields-bare : (turns : ℕ) (bytes : List ℕ) (cs : List Channel) (ss : List Step) → Bare (readFields turns bytes cs ss)
+fields-bare zero bytes cs ss = finished-bare cs ss
+fields-bare (suc turns) bytes cs ss =
+    cond-bare (eqb (length bytes) 0) _ _ (finished-bare cs ss)
+    (asked-bare (eqb (answerOf bytes cs ss) 0) (answerOf bytes cs ss) _
+    (cond-bare (isStep bytes) _ _ (fields-bare turns _ _ _) (fields-bare turns _ _ _)))
+
+form-bare : (bytes : List ℕ) → Bare (formOf bytes)
+unfolding formOf
+form-bare bytes = fields-bare (length bytes) bytes [] []
+
+-- f is what `read_form` gave
+module _ (bytes : List ℕ) (f : Record) (e : f ≡ packedForm (formOf bytes)) where
+  form-answer : f .answer ≡ formOf bytes .answer
+  unfolding packedForm
+  form-answer = ap (λ (x : Record). x .answer) e
+
+  pub read-refused : (f .answer ≡ 0 → ⊥) → f ≡ readOf bytes
+  unfolding packedForm readOf readAnswer
+  read-refused z =
+      let n : formOf bytes .answer ≡ 0 → ⊥ = λ h. z (form-answer ∙ h) in
+      e ∙ rw (ne-eqb _ 0 n, ne-eqb _ 0 n) (ap packedForm (form-bare bytes n))
+
+  module _ (z : f .answer ≡ 0) (r : Stepped) (er : r ≡ rewritten (f .list) (f .steps)) where
+    read-answer : r .answer ≡ readAnswer bytes
+    unfolding readAnswer packedForm
+    read-answer =
+        plan-answer (f .list) (f .steps) r er
+        ∙ rw (eq-eqb _ 0 (sym form-answer ∙ z), ap (λ (x : Record). x .list) e, ap (λ (x : Record). x .steps) e)
+
+    pub read-refused-plan : (g : Record) → (r .answer ≡ 0 → ⊥) → g ≡ packedForm (refused (r .answer)) → g ≡ readOf bytes
+    unfolding packedForm readOf
+    read-refused-plan g n eg = eg ∙ rw (← read-answer, ne-eqb (r .answer) 0 n)
+
+    pub read-accepted : r .answer ≡ 0 → f ≡ readOf bytes
+    unfolding packedForm readOf
+    read-accepted n = e ∙ rw (← read-answer, n, sym form-answer ∙ z)
+
+-- ---- the writer, by its answer
+module _ (l : ChannelList) (s : Steps) (out : List ℕ) where
+  written-nothing : (a : ℕ) → writeAnswer l s out ≡ a → (a ≡ 0 → ⊥) → (record { answer = a; length = 0 } ≡ writtenOf l s out) × (out ≡ writtenBytes l s out)
+  unfolding writtenOf writtenBytes
+  written-nothing a e z = (rw (e, ne-eqb a 0 z), rw (e, ne-eqb a 0 z))
+
+  module _ (e : writeAnswer l s out ≡ 0) where
+    pub written-length : writtenOf l s out ≡ record { answer = 0; length = length (recordFor l s) }
+    unfolding writtenOf
+    written-length = rw e
+
+    pub written-bytes : writtenBytes l s out ≡ recordFor l s ++ drop (length (recordFor l s)) out
+    unfolding writtenBytes
+    written-bytes = rw e
+
+-- a is the answer to questions 3 to 11
+module _ (l : ChannelList) (s : Steps) (a : ℕ) (ea : a ≡ judgePlan l s) where
+  pub write-refused : (out : List ℕ) → (a ≡ 0 → ⊥) → (record { answer = a; length = 0 } ≡ writtenOf l s out) × (out ≡ writtenBytes l s out)
+  unfolding writeAnswer
+  write-refused out z = written-nothing l s out a (rw (← ea, ne-eqb a 0 z)) z
+
+  module _ (z : a ≡ 0) where
+    pub counts : (l .count ≤ maxChannels) × (s .count ≤ maxSteps)
+    counts = judged-counts l s (sym ea ∙ z)
+
+    pub channels-size : length (channelFields (channels l)) ≡ channelSize * l .count
+    channels-size = joined-length channelField channelSize channel-size (channels l) ∙ ap (λ (n : ℕ). channelSize * n) (counted-all l (counts .0))
+
+    pub steps-size : length (stepFields (S.steps s)) ≡ stepSize * s .count
+    unfolding S.steps
+    steps-size =
+        let n : length (S.steps s) ≡ s .count = omega (arith, table-length (S.stepAt s) 0 (min (s .count) maxSteps), counts .1) in
+        joined-length stepField stepSize step-size (S.steps s) ∙ ap (λ (k : ℕ). stepSize * k) n
+
+    record-size : length (recordFor l s) ≡ channelSize * l .count + stepSize * s .count
+    unfolding recordOf
+    record-size = omega (arith, length-append (channelFields (channels l)) (stepFields (S.steps s)), channels-size, steps-size)
+
+    module _ (out : List ℕ) where
+      write-answer : (b : Bool) → leb (length (recordFor l s)) (length out) ≡ b → writeAnswer l s out ≡ cond b 0 12
+      unfolding writeAnswer
+      write-answer b e = rw (sym ea ∙ z, e)
+
+      pub write-fits : length (recordFor l s) ≤ length out → writeAnswer l s out ≡ 0
+      write-fits h = write-answer true (le-leb (length (recordFor l s)) (length out) h)
+
+      pub write-short : length out < channelSize * l .count + stepSize * s .count → (record { answer = 12; length = 0 } ≡ writtenOf l s out) × (out ≡ writtenBytes l s out)
+      write-short h = written-nothing l s out 12 (write-answer false (lt-leb (length (recordFor l s)) (length out) (omega (arith, record-size)))) (λ e. omega arith)
+
+      module _ (h : channelSize * l .count + stepSize * s .count ≤ length out) where
+        fits : writeAnswer l s out ≡ 0
+        fits = write-fits (omega (arith, record-size))
+
+        pub write-length : record { answer = 0; length = channelSize * l .count + stepSize * s .count } ≡ writtenOf l s out
+        write-length = sym (written-length l s out fits ∙ rw record-size)
+
+        pub write-bytes : (out₁ out₂ : List ℕ) → out₁ ≡ placed out 0 (channelFields (channels l)) → out₂ ≡ placed out₁ (channelSize * l .count) (stepFields (S.steps s))
+            → out₂ ≡ writtenBytes l s out
+        unfolding recordOf
+        write-bytes out₁ out₂ e₁ e₂ =
+            let n : channelSize * l .count ≡ 0 + length (channelFields (channels l)) = omega (arith, channels-size) in
+            e₂
+            ∙ rw (e₁, n, placed-more out 0 (channelFields (channels l)) (omega (arith, channels-size)) (stepFields (S.steps s)), zero-add)
+            (sym (written-bytes l s out fits))

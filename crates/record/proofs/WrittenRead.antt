@@ -1,0 +1,157 @@
+-- Bytes that the reader accepts are the record of what it gives: each field is that of its channel or step, and the fields stand in their order.
+-- So the writer writes them back, and a list with its steps has one record. Assumes nothing.
+use mathlib.Core.Path.{_≡_, refl, sym, ap, _∙_}
+use mathlib.Core.Bool.{Bool, true, false, cond}
+use mathlib.Core.List.{List, [], _∷_, _++_, append-nil, append-assoc}
+use Prim.Native.Nat.{ℕ, zero, suc, _+_, _≤_}
+use native.Mathlib.Omega.{arith}
+use lib.Dec.{eqb, leb}
+use lib.ListN.{length, drop, length-drop}
+use lib.Seq.{getD-drop}
+use borrow.Author.Tests.{eqb-true, eqb-false}
+use Rattle.channel.specs.declared.Channel.{Channel}
+use Rattle.list.specs.declared.Step.{Step}
+use Rattle.list.specs.Lists as Lists
+use Rattle.list.specs.Lists.{channels}
+use Rattle.list.proofs.Packed.{channels-packed}
+use Rattle.plan.specs.Steps as S
+use Rattle.plan.specs.Plans.{judgePlan}
+use Rattle.plan.proofs.Packed.{packed-count, steps-packed}
+use Rattle.record.specs.declared.Record.{Record}
+use Rattle.record.specs.Bytes.{channelField, stepField, channelFields, stepFields, recordOf, channelSize, stepSize}
+use Rattle.record.specs.Reading.{Form, asked, channelOf, stepOf, isStep, finished, answerOf, readFields, formOf}
+use Rattle.record.specs.Records.{readAnswer, readOf, recordFor, writeAnswer}
+use Rattle.record.specs.Laws.{AreBytes, WrittenRead, WrittenReadLaw, OneRecord}
+use Rattle.record.proofs.Fields.{is-step, is-channel}
+use Rattle.record.proofs.Words.{step-bytes, channel-bytes}
+use Rattle.record.proofs.Judged.{both-passed, judged-counts}
+use Rattle.record.proofs.Pushed.{list-count}
+use Rattle.record.proofs.Joined.{joined-snoc}
+use Rattle.record.proofs.Outcomes.{write-fits, written-length, written-bytes}
+
+none {ℓ} : {A : Type ℓ} (xs : List A) → length xs ≤ 0 → xs ≡ []
+none [] h = refl
+none (x ∷ xs) h = absurd (omega arith)
+
+-- ---- what has been read, and what is left
+-- the record of a form that refuses nothing is `whole`
+abbrev Gives : List ℕ → Form → Type 0
+Gives whole form = form .answer ≡ 0 → recordOf (form .channels) (form .steps) ≡ whole
+
+asked-gives : (whole : List ℕ) (answer : ℕ) (next : Form) → (answer ≡ 0 → Gives whole next) → Gives whole (asked (eqb answer 0) answer next)
+asked-gives whole answer next h = go (eqb answer 0) refl
+  where
+    go : (b : Bool) → eqb answer 0 ≡ b → Gives whole (asked b answer next)
+    go true e = h (eqb-true answer 0 e)
+    go false e = λ z. absurd (eqb-false answer 0 e z)
+
+finished-gives : (cs : List Channel) (ss : List Step) (bytes : List ℕ) → length bytes ≤ 0 → Gives (recordOf cs ss ++ bytes) (finished cs ss)
+finished-gives cs ss bytes h = rw (none bytes h, append-nil) (go (leb 1 (length cs)))
+  where
+    go : (b : Bool) → Gives (recordOf cs ss) (asked b 3 (record { answer = 0; channels = cs; steps = ss }))
+    go true z = refl
+    go false z = absurd (omega arith)
+
+module _ (bytes : List ℕ) (b : AreBytes bytes) (cs : List Channel) (ss : List Step) where
+  step-next : answerOf bytes cs ss ≡ 0 → isStep bytes ≡ true
+      → recordOf cs (ss ++ stepOf bytes ∷ []) ++ drop stepSize bytes ≡ recordOf cs ss ++ bytes
+  unfolding recordOf
+  step-next h t =
+      rw (joined-snoc stepField ss (stepOf bytes))
+      (simp append-assoc (ap (λ (l : List ℕ). channelFields cs ++ (stepFields ss ++ l)) (sym (step-bytes bytes b _ (is-step bytes _ _ _ h t)))))
+
+  channel-next : answerOf bytes cs ss ≡ 0 → isStep bytes ≡ false
+      → recordOf (cs ++ channelOf bytes ∷ []) ss ++ drop channelSize bytes ≡ recordOf cs ss ++ bytes
+  unfolding recordOf
+  channel-next h t =
+      let f = is-channel bytes _ _ _ h t in
+      rw (none ss (omega (arith, f .first)), joined-snoc channelField cs (channelOf bytes))
+      (simp (append-assoc, append-nil) (ap (λ (l : List ℕ). channelFields cs ++ l) (sym (channel-bytes bytes b _ _ _ f))))
+
+  turn-gives : (x y : Form)
+      → Gives (recordOf cs (ss ++ stepOf bytes ∷ []) ++ drop stepSize bytes) x
+      → Gives (recordOf (cs ++ channelOf bytes ∷ []) ss ++ drop channelSize bytes) y
+      → Gives (recordOf cs ss ++ bytes)
+      (cond (eqb (length bytes) 0) (finished cs ss) (asked (eqb (answerOf bytes cs ss) 0) (answerOf bytes cs ss) (cond (isStep bytes) x y)))
+  turn-gives x y gx gy = go (eqb (length bytes) 0) refl
+    where
+      kind : (t : Bool) → isStep bytes ≡ t → answerOf bytes cs ss ≡ 0 → Gives (recordOf cs ss ++ bytes) (cond t x y)
+      kind true e h = λ z. gx z ∙ step-next h e
+      kind false e h = λ z. gy z ∙ channel-next h e
+
+      go : (t : Bool) → eqb (length bytes) 0 ≡ t
+          → Gives (recordOf cs ss ++ bytes) (cond t (finished cs ss) (asked (eqb (answerOf bytes cs ss) 0) (answerOf bytes cs ss) (cond (isStep bytes) x y)))
+      go true e = finished-gives cs ss bytes (omega (arith, eqb-true (length bytes) 0 e))
+      go false e = asked-gives (recordOf cs ss ++ bytes) (answerOf bytes cs ss) _ (kind (isStep bytes) refl)
+
+dropped : (bytes : List ℕ) (n : ℕ) → AreBytes bytes → AreBytes (drop n bytes)
+dropped bytes n b k = rw (getD-drop n bytes k 0) (b (n + k))
+
+fields-give : (turns : ℕ) (bytes : List ℕ) (cs : List Channel) (ss : List Step) → AreBytes bytes → length bytes ≤ turns
+    → Gives (recordOf cs ss ++ bytes) (readFields turns bytes cs ss)
+fields-give zero bytes cs ss b l = finished-gives cs ss bytes l
+fields-give (suc turns) bytes cs ss b l =
+    turn-gives bytes b cs ss _ _
+    (fields-give turns _ cs _ (dropped bytes stepSize b) (omega (arith, length-drop stepSize bytes)))
+    (fields-give turns _ _ ss (dropped bytes channelSize b) (omega (arith, length-drop channelSize bytes)))
+
+form-back : (bytes : List ℕ) → AreBytes bytes → formOf bytes .answer ≡ 0 → recordOf (formOf bytes .channels) (formOf bytes .steps) ≡ bytes
+unfolding formOf recordOf
+form-back bytes b = fields-give (length bytes) bytes [] [] b (omega arith)
+
+-- ---- what the reader gives
+module _ (bytes : List ℕ) (b : AreBytes bytes) (h : readAnswer bytes ≡ 0) where
+  parts : (formOf bytes .answer ≡ 0) × (judgePlan (Lists.packed (formOf bytes .channels)) (S.packed (formOf bytes .steps)) ≡ 0)
+  unfolding readAnswer
+  parts = both-passed (formOf bytes .answer) _ h
+
+  whole : readOf bytes ≡ record { answer = 0; list = Lists.packed (formOf bytes .channels); steps = S.packed (formOf bytes .steps) }
+  unfolding readOf
+  whole = rw h
+
+  list-is : readOf bytes .list ≡ Lists.packed (formOf bytes .channels)
+  list-is = ap (λ (r : Record). r .list) whole
+
+  steps-are : readOf bytes .steps ≡ S.packed (formOf bytes .steps)
+  steps-are = ap (λ (r : Record). r .steps) whole
+
+  judged : judgePlan (readOf bytes .list) (readOf bytes .steps) ≡ 0
+  judged = rw (list-is, steps-are) (parts .1)
+
+  back : recordFor (readOf bytes .list) (readOf bytes .steps) ≡ bytes
+  back =
+      let n = judged-counts _ _ (parts .1) in
+      rw (
+        list-is,
+        steps-are,
+        channels-packed (formOf bytes .channels) (omega (arith, n .0, list-count (formOf bytes .channels))),
+        steps-packed (formOf bytes .steps) (omega (arith, n .1, packed-count (S.packed (formOf bytes .steps)) _ refl)),
+      ) (form-back bytes b (parts .0))
+
+  accepted : (out : List ℕ) → length bytes ≤ length out → writeAnswer (readOf bytes .list) (readOf bytes .steps) out ≡ 0
+  accepted out l = write-fits _ _ _ refl judged out (rw back l)
+
+  gives-back : WrittenRead bytes
+  gives-back =
+      record {
+        form = form-back bytes b (parts .0);
+        record-is = back;
+        length-is = λ out l. written-length _ _ out (accepted out l) ∙ rw back;
+        written = λ out l. written-bytes _ _ out (accepted out l) ∙ rw back;
+      }
+
+pub written-read : WrittenReadLaw
+written-read = gives-back
+
+answer-is : (bytes : List ℕ) → readOf bytes .answer ≡ readAnswer bytes
+unfolding readOf
+answer-is bytes = go (eqb (readAnswer bytes) 0) refl
+  where
+    go : (t : Bool) → eqb (readAnswer bytes) 0 ≡ t → readOf bytes .answer ≡ readAnswer bytes
+    go true e = rw e (sym (eqb-true (readAnswer bytes) 0 e))
+    go false e = rw e
+
+pub one-record : OneRecord
+one-record x y bx by h e =
+    let k : readAnswer y ≡ 0 = sym (answer-is y) ∙ sym (ap (λ (r : Record). r .answer) e) ∙ answer-is x ∙ h in
+    sym (back x bx h) ∙ ap (λ (r : Record). recordFor (r .list) (r .steps)) e ∙ back y by k

@@ -1,0 +1,42 @@
+-- `channel_field` meets its contract: its calls give the two bytes of each number. Assumes nothing.
+use borrow.Author.Needs.{needs}
+use Rattle.record.specs.Bytes.{channelField}
+use Rattle.record.proofs.channel_field.Statement.{statement}
+use Rattle.record.proofs.channel_field.Tie as tie
+
+low-requires : tie.Need-low-requires
+low-requires c κs = search needs
+
+high-requires : tie.Need-high-requires
+high-requires c κs = search needs
+
+low-requires-2 : tie.Need-low-requires-2
+low-requires-2 c κs = search needs
+
+high-requires-2 : tie.Need-high-requires-2
+high-requires-2 c κs = search needs
+
+low-requires-3 : tie.Need-low-requires-3
+low-requires-3 c κs = search needs
+
+high-requires-3 : tie.Need-high-requires-3
+high-requires-3 c κs = search needs
+
+returns : tie.Need-returns
+unfolding channelField
+returns c =
+    let h = c .before .before in
+    let w = h .before .before in
+    rw (w .before .low .ensures, w .high .ensures, h .before .low2 .ensures, h .high2 .ensures, c .before .low3 .ensures, c .high3 .ensures)
+
+pub channel-field-spec : {M : Type 1} → statement M
+channel-field-spec =
+    tie.close
+    (tie.spec
+    low-requires
+    high-requires
+    low-requires-2
+    high-requires-2
+    low-requires-3
+    high-requires-3
+    returns)

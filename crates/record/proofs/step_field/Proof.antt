@@ -1,0 +1,54 @@
+-- `step_field` meets its contract: its calls give the flags and the two bytes of each number. Assumes nothing.
+use borrow.Author.Needs.{needs}
+use Rattle.record.specs.Bytes.{stepField}
+use Rattle.record.proofs.step_field.Statement.{statement}
+use Rattle.record.proofs.step_field.Tie as tie
+
+low-requires : tie.Need-low-requires
+low-requires c κs = search needs
+
+high-requires : tie.Need-high-requires
+high-requires c κs = search needs
+
+flags-of-requires : tie.Need-flags-of-requires
+flags-of-requires c κs = search needs
+
+low-requires-2 : tie.Need-low-requires-2
+low-requires-2 c κs = search needs
+
+high-requires-2 : tie.Need-high-requires-2
+high-requires-2 c κs = search needs
+
+low-requires-3 : tie.Need-low-requires-3
+low-requires-3 c κs = search needs
+
+high-requires-3 : tie.Need-high-requires-3
+high-requires-3 c κs = search needs
+
+returns : tie.Need-returns
+unfolding stepField
+returns c =
+    let b = c .before .before in
+    let f = b .before .before in
+    rw (
+      f .before .before .low .ensures,
+      f .before .high .ensures,
+      f .flags-of .ensures,
+      b .before .low2 .ensures,
+      b .high2 .ensures,
+      c .before .low3 .ensures,
+      c .high3 .ensures,
+    )
+
+pub step-field-spec : {M : Type 1} → statement M
+step-field-spec =
+    tie.close
+    (tie.spec
+    low-requires
+    high-requires
+    flags-of-requires
+    low-requires-2
+    high-requires-2
+    low-requires-3
+    high-requires-3
+    returns)

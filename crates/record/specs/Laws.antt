@@ -1,0 +1,47 @@
+-- "Reading and writing undo each other" (document 01, "Record"): the two laws, over lists and byte strings. proofs/ReadWritten.antt and
+-- proofs/WrittenRead.antt prove them.
+use mathlib.Core.Path.{_≡_}
+use mathlib.Core.List.{List, [], _++_}
+use Prim.Native.Nat.{ℕ, _<_, _≤_}
+use lib.ListN.{length, getD, take, drop}
+use Rattle.list.specs.declared.ChannelList.{ChannelList}
+use Rattle.list.specs.Lists as Lists
+use Rattle.list.specs.Lists.{channels}
+use Rattle.plan.specs.declared.Steps.{Steps}
+use Rattle.plan.specs.Steps as S
+use Rattle.plan.specs.Steps.{steps}
+use Rattle.plan.specs.Plans.{judgePlan}
+use Rattle.record.specs.Bytes.{recordOf}
+use Rattle.record.specs.Reading.{byteAt, formOf}
+use Rattle.record.specs.Records.{readAnswer, readOf, recordFor, writeAnswer, writtenOf, writtenBytes}
+
+-- "width and height (0 to 65,535)"
+abbrev pub SidesFit : ChannelList → Type 0
+SidesFit l = (k : ℕ) → (getD (l .widths) k 0 < 65536) × (getD (l .heights) k 0 < 65536)
+
+abbrev pub AreBytes : List ℕ → Type 0
+AreBytes bytes = (k : ℕ) → byteAt bytes k < 256
+
+-- a record that was written: its reading gives the channels and the steps that were meant, and no steps stay no steps
+pub record ReadWritten (l : ChannelList) (s : Steps) : Type 0 where
+  pub form : formOf (recordFor l s) ≡ record { answer = 0; channels = channels l; steps = steps s }
+  pub read : readOf (recordFor l s) ≡ record { answer = 0; list = Lists.packed (channels l); steps = S.packed (steps s) }
+  pub none : s .count ≡ 0 → readOf (recordFor l s) .steps ≡ S.packed []
+  pub written : (out : List ℕ) → writeAnswer l s out ≡ 0 → take (writtenOf l s out .length) (writtenBytes l s out) ≡ recordFor l s
+
+-- bytes that were read: they are the record of what they gave, and the writer writes them back
+pub record WrittenRead (bytes : List ℕ) : Type 0 where
+  pub form : recordOf (formOf bytes .channels) (formOf bytes .steps) ≡ bytes
+  pub record-is : recordFor (readOf bytes .list) (readOf bytes .steps) ≡ bytes
+  pub length-is : (out : List ℕ) → length bytes ≤ length out → writtenOf (readOf bytes .list) (readOf bytes .steps) out ≡ record { answer = 0; length = length bytes }
+  pub written : (out : List ℕ) → length bytes ≤ length out → writtenBytes (readOf bytes .list) (readOf bytes .steps) out ≡ bytes ++ drop (length bytes) out
+
+abbrev pub ReadWrittenLaw : Type 0
+ReadWrittenLaw = (l : ChannelList) (s : Steps) → SidesFit l → judgePlan l s ≡ 0 → ReadWritten l s
+
+abbrev pub WrittenReadLaw : Type 0
+WrittenReadLaw = (bytes : List ℕ) → AreBytes bytes → readAnswer bytes ≡ 0 → WrittenRead bytes
+
+-- one record for a list and its steps
+abbrev pub OneRecord : Type 0
+OneRecord = (a b : List ℕ) → AreBytes a → AreBytes b → readAnswer a ≡ 0 → readOf a ≡ readOf b → a ≡ b

@@ -1,0 +1,5 @@
+pub mod Bytes
+pub mod Reading
+pub mod Adding
+pub mod Records
+pub mod Laws

@@ -1,0 +1,114 @@
+-- Reading a record's form (document 01, "The questions" 1 to 4): "In a record, questions 1 to 4 are put field by field", each in its order; "a
+-- field too many is met at that field, a missing channel at the end". Definitions only.
+use mathlib.Core.Bool.{Bool, cond, _&&_, _||_, not}
+use mathlib.Core.List.{List, [], _∷_, _++_}
+use Prim.Native.Nat.{ℕ, zero, suc, _+_, _/_, _%_}
+use lib.Dec.{eqb, leb, ltb}
+use lib.ListN.{length, getD, drop}
+use Rattle.channel.specs.declared.Channel.{Channel}
+use Rattle.channel.specs.Channel.{isMeta, shiftsAllowed}
+use Rattle.list.specs.declared.Step.{Step}
+use Rattle.list.specs.Tables.{all}
+use Rattle.list.specs.Lists.{maxChannels, maxSteps}
+use Rattle.list.specs.Questions.{ask}
+use Rattle.plan.specs.Steps.{flagsAllowed}
+use Rattle.record.specs.Bytes.{channelTag, channelLength, channelSize, stepTag, stepLength, stepSize, headLength, word}
+
+-- what reading the form comes to: 0 with the channels and the steps, or a refusal's number
+pub record Form : Type 0 where
+  pub answer : ℕ
+  pub channels : List Channel
+  pub steps : List Step
+
+abbrev pub refused : ℕ → Form
+refused number = record { answer = number; channels = []; steps = [] }
+
+-- a question of a form: the refusal's number where the answer is "no"
+abbrev pub asked : Bool → ℕ → Form → Form
+asked answer number next = cond answer next (refused number)
+
+abbrev pub byteAt : List ℕ → ℕ → ℕ
+byteAt bytes k = getD bytes k 0
+
+-- a field's tag and stated length, and its body's bytes
+abbrev pub tagOf : List ℕ → ℕ
+tagOf bytes = byteAt bytes 0
+
+abbrev pub lengthOf : List ℕ → ℕ
+lengthOf bytes = word (byteAt bytes 1) (byteAt bytes 2)
+
+abbrev pub channelOf : List ℕ → Channel
+channelOf bytes =
+    record {
+      width = word (byteAt bytes 3) (byteAt bytes 4);
+      height = word (byteAt bytes 5) (byteAt bytes 6);
+      hshift = byteAt bytes 7;
+      vshift = byteAt bytes 8;
+    }
+
+abbrev pub flagsAt : List ℕ → ℕ
+flagsAt bytes = byteAt bytes 3
+
+abbrev pub stepOf : List ℕ → Step
+stepOf bytes =
+    record {
+      horizontal = eqb (flagsAt bytes % 2) 1;
+      inplace = eqb (flagsAt bytes / 2 % 2) 1;
+      begin = word (byteAt bytes 4) (byteAt bytes 5);
+      number = word (byteAt bytes 6) (byteAt bytes 7);
+    }
+
+-- ---- the questions of a field that stands after `channels` channels, all of them meta or not, and `steps` steps
+-- 1. "Does the field's three-byte head, and its stated length, lie inside the bytes?"
+unfoldable pub fieldInside : List ℕ → Bool
+fieldInside bytes = leb headLength (length bytes) && leb (headLength + lengthOf bytes) (length bytes)
+
+-- 2. "Is the tag known, the length its own, and no channel after a step?"
+unfoldable pub isChannel : List ℕ → ℕ → Bool
+isChannel bytes steps = eqb (tagOf bytes) channelTag && (eqb (lengthOf bytes) channelLength && eqb steps 0)
+
+unfoldable pub isStep : List ℕ → Bool
+isStep bytes = eqb (tagOf bytes) stepTag && eqb (lengthOf bytes) stepLength
+
+-- 4. a channel's shifts, "meta channels first"
+unfoldable pub channelAllowed : Channel → Bool → Bool
+channelAllowed c metas = shiftsAllowed c && (not (isMeta c) || metas)
+
+-- 3 and 4 of a channel and of a step, with "a field too many"
+unfoldable pub judgeChannelField : List ℕ → ℕ → Bool → ℕ
+judgeChannelField bytes channels metas =
+    ask (ltb channels maxChannels) 3
+    (ask (channelAllowed (channelOf bytes) metas) 4 0)
+
+unfoldable pub judgeStepField : List ℕ → ℕ → ℕ
+judgeStepField bytes steps =
+    ask (ltb steps maxSteps) 3
+    (ask (flagsAllowed (flagsAt bytes)) 4 0)
+
+unfoldable pub judgeField : List ℕ → ℕ → Bool → ℕ → ℕ
+judgeField bytes channels metas steps =
+    ask (fieldInside bytes) 1
+    (ask (isChannel bytes steps || isStep bytes) 2
+    (cond (isStep bytes) (judgeStepField bytes steps) (judgeChannelField bytes channels metas)))
+
+-- ---- the fields
+-- at the end: 3. "Are there 1 .. channels"
+abbrev pub finished : List Channel → List Step → Form
+finished cs ss = asked (leb 1 (length cs)) 3 (record { answer = 0; channels = cs; steps = ss })
+
+-- the first field's answer, after the channels cs and the steps ss
+abbrev pub answerOf : List ℕ → List Channel → List Step → ℕ
+answerOf bytes cs ss = judgeField bytes (length cs) (all isMeta cs) (length ss)
+
+-- the fields of a record after the channels cs and the steps ss; a field has at least three bytes, so as many turns as bytes are enough
+abbrev pub readFields : ℕ → List ℕ → List Channel → List Step → Form
+readFields zero bytes cs ss = finished cs ss
+readFields (suc turns) bytes cs ss =
+    cond (eqb (length bytes) 0) (finished cs ss)
+    (asked (eqb (answerOf bytes cs ss) 0) (answerOf bytes cs ss)
+    (cond (isStep bytes)
+    (readFields turns (drop (stepSize) bytes) cs (ss ++ (stepOf bytes ∷ [])))
+    (readFields turns (drop (channelSize) bytes) (cs ++ (channelOf bytes ∷ [])) ss)))
+
+unfoldable pub formOf : List ℕ → Form
+formOf bytes = readFields (length bytes) bytes [] []

@@ -1,0 +1,57 @@
+-- The record's reader and writer (document 01, "Record", "The questions"): "Reader and listing judge form first, then the plan"; "the record's
+-- writer puts questions 3 to 11 too, and bytes past the record stay". Definitions only.
+use mathlib.Core.Bool.{cond}
+use mathlib.Core.List.{List, [], _++_}
+use Prim.Native.Nat.{ℕ}
+use lib.Dec.{eqb, leb}
+use lib.ListN.{length, drop}
+use Rattle.list.specs.declared.ChannelList.{ChannelList}
+use Rattle.list.specs.Lists as Lists
+use Rattle.list.specs.Lists.{channels}
+use Rattle.list.specs.Questions.{ask}
+use Rattle.plan.specs.declared.Steps.{Steps}
+use Rattle.plan.specs.Steps as S
+use Rattle.plan.specs.Steps.{steps}
+use Rattle.plan.specs.Plans.{judgePlan}
+use Rattle.record.specs.declared.Record.{Record}
+use Rattle.record.specs.declared.Written.{Written}
+use Rattle.record.specs.Bytes.{recordOf}
+use Rattle.record.specs.Reading.{Form, formOf}
+
+-- a form with its channels and steps in flat arrays
+unfoldable pub packedForm : Form → Record
+packedForm form = record { answer = form .answer; list = Lists.packed (form .channels); steps = S.packed (form .steps) }
+
+-- ---- the reader: questions 1 to 4 of the form, then 5 to 11 of the list and the steps read
+unfoldable pub readAnswer : List ℕ → ℕ
+readAnswer bytes =
+    ask (eqb (formOf bytes .answer) 0) (formOf bytes .answer)
+    (judgePlan (Lists.packed (formOf bytes .channels)) (S.packed (formOf bytes .steps)))
+
+-- the list and the steps, or the refusal's number and nothing else
+unfoldable pub readOf : List ℕ → Record
+readOf bytes =
+    cond (eqb (readAnswer bytes) 0)
+    (record { answer = 0; list = Lists.packed (formOf bytes .channels); steps = S.packed (formOf bytes .steps) })
+    (record { answer = readAnswer bytes; list = Lists.packed []; steps = S.packed [] })
+
+-- ---- the writer: questions 3 to 11, then 14: "a slice for the record at least the bytes needed"
+abbrev pub recordFor : ChannelList → Steps → List ℕ
+recordFor l s = recordOf (channels l) (steps s)
+
+unfoldable pub writeAnswer : ChannelList → Steps → List ℕ → ℕ
+writeAnswer l s out =
+    ask (eqb (judgePlan l s) 0) (judgePlan l s)
+    (ask (leb (length (recordFor l s)) (length out)) 12 0)
+
+-- the answer with the record's length, or the refusal's number and 0
+unfoldable pub writtenOf : ChannelList → Steps → List ℕ → Written
+writtenOf l s out =
+    cond (eqb (writeAnswer l s out) 0)
+    (record { answer = 0; length = length (recordFor l s) })
+    (record { answer = writeAnswer l s out; length = 0 })
+
+-- the slice afterwards
+unfoldable pub writtenBytes : ChannelList → Steps → List ℕ → List ℕ
+writtenBytes l s out =
+    cond (eqb (writeAnswer l s out) 0) (recordFor l s ++ drop (length (recordFor l s)) out) out

@@ -1,0 +1,362 @@
+// The record (document 01, "Record"): a channel list and its steps as bytes,
+// read field by field and written. Total: every byte string is judged, by
+// questions 1 to 11 in their order; the writer puts 3 to 11 and 14.
+ghost use mathlib.Core.Path.{_≡_};
+ghost use Prim.Native.Nat.{_+_, _≤_, _<_};
+ghost use lib.ListN.{length};
+ghost use Rattle.list.specs.Lists.{maxChannels, maxSteps, channels};
+ghost use Rattle.plan.specs.Steps as StepsSpec;
+ghost use Rattle.plan.specs.Adding.{pushed};
+ghost use Rattle.record.specs.Adding.{withChannel};
+ghost use Rattle.record.specs.Bytes as Bytes;
+ghost use Rattle.record.specs.Reading as Reading;
+ghost use Rattle.record.specs.Records as Spec;
+use channel::Channel;
+use list::ChannelList;
+use list::Step;
+use plan::Steps;
+
+// The answer 0 with a list and its steps, or a refusal's number with neither.
+pub struct Record {
+    pub answer: u32,
+    pub list: ChannelList,
+    pub steps: Steps,
+}
+
+// The answer 0 with the record's length, or a refusal's number.
+pub struct Written {
+    pub answer: u32,
+    pub length: usize,
+}
+
+const CHANNEL_TAG: u8 = 1;
+
+const CHANNEL_LENGTH: u16 = 6;
+
+const STEP_TAG: u8 = 2;
+
+const STEP_LENGTH: u16 = 5;
+
+// The bytes of a field before its body.
+const HEAD_LENGTH: usize = 3;
+
+const CHANNEL_SIZE: usize = HEAD_LENGTH + CHANNEL_LENGTH as usize;
+
+const STEP_SIZE: usize = HEAD_LENGTH + STEP_LENGTH as usize;
+
+// The flags of a step that is horizontal and in place: there are no others.
+const ALL_FLAGS: u8 = 3;
+
+// The refusals of questions 1 to 4 and 14.
+const REFUSED_OUTSIDE: u32 = 1;
+
+const REFUSED_TAG: u32 = 2;
+
+const REFUSED_NUMBERS: u32 = 3;
+
+const REFUSED_FORM: u32 = 4;
+
+const REFUSED_SLICE: u32 = 12;
+
+// A two-byte number, least byte first.
+fn word(low: u8, high: u8) -> u16
+    ensures { λ r. ⌜ r ≡ Bytes.word low high ⌝ }
+{
+    low as u16 + 256 * (high as u16)
+}
+
+// The length that a field states.
+fn stated_length(bytes: &[u8]) -> u16
+    requires { ⌜ Bytes.headLength ≤ length (now bytes) ⌝ }
+    ensures { λ r. ⌜ r ≡ Reading.lengthOf (now (bytes .entry)) ⌝ }
+{
+    word(bytes[1], bytes[2])
+}
+
+// Question 1.
+fn field_inside(bytes: &[u8]) -> bool
+    ensures { λ r. ⌜ r ≡ Reading.fieldInside (now (bytes .entry)) ⌝ }
+{
+    if bytes.len() < HEAD_LENGTH {
+        return false;
+    }
+    HEAD_LENGTH + stated_length(bytes) as usize <= bytes.len()
+}
+
+// Question 2, of a channel after so many steps.
+fn is_channel(bytes: &[u8], steps: usize) -> bool
+    requires { ⌜ Bytes.headLength ≤ length (now bytes) ⌝ }
+    ensures { λ r. ⌜ r ≡ Reading.isChannel (now (bytes .entry)) steps ⌝ }
+{
+    (bytes[0] == CHANNEL_TAG) & (stated_length(bytes) == CHANNEL_LENGTH) & (steps == 0)
+}
+
+// Question 2, of a step.
+fn is_step(bytes: &[u8]) -> bool
+    requires { ⌜ Bytes.headLength ≤ length (now bytes) ⌝ }
+    ensures { λ r. ⌜ r ≡ Reading.isStep (now (bytes .entry)) ⌝ }
+{
+    (bytes[0] == STEP_TAG) & (stated_length(bytes) == STEP_LENGTH)
+}
+
+// A field's channel.
+fn channel_of(bytes: &[u8]) -> Channel
+    requires { ⌜ Bytes.channelSize ≤ length (now bytes) ⌝ }
+    ensures { λ r. ⌜ r ≡ Reading.channelOf (now (bytes .entry)) ⌝ }
+{
+    Channel {
+        width: word(bytes[3], bytes[4]),
+        height: word(bytes[5], bytes[6]),
+        hshift: bytes[7],
+        vshift: bytes[8],
+    }
+}
+
+// Questions 3 and 4, of a channel after so many channels, all of them meta or
+// not.
+fn judge_channel(bytes: &[u8], channels: usize, metas: bool) -> u32
+    requires { ⌜ Bytes.channelSize ≤ length (now bytes) ⌝ }
+    ensures { λ r. ⌜ r ≡ Reading.judgeChannelField (now (bytes .entry)) channels metas ⌝ }
+{
+    if ChannelList::MAX_CHANNELS <= channels {
+        return REFUSED_NUMBERS;
+    }
+    let c = channel_of(bytes);
+    if !(c.has_shifts_allowed() & (!c.is_meta() | metas)) {
+        return REFUSED_FORM;
+    }
+    0
+}
+
+// Questions 3 and 4, of a step after so many steps.
+fn judge_step(bytes: &[u8], steps: usize) -> u32
+    requires { ⌜ Bytes.stepSize ≤ length (now bytes) ⌝ }
+    ensures { λ r. ⌜ r ≡ Reading.judgeStepField (now (bytes .entry)) steps ⌝ }
+{
+    if ChannelList::MAX_STEPS <= steps {
+        return REFUSED_NUMBERS;
+    }
+    if ALL_FLAGS < bytes[3] {
+        return REFUSED_FORM;
+    }
+    0
+}
+
+// Questions 1 to 4, of the field that `bytes` begin with, after so many
+// channels, all of them meta or not, and so many steps.
+fn judge_field(bytes: &[u8], channels: usize, metas: bool, steps: usize) -> u32
+    ensures { λ r. ⌜ r ≡ Reading.judgeField (now (bytes .entry)) channels metas steps ⌝ }
+{
+    if !field_inside(bytes) {
+        return REFUSED_OUTSIDE;
+    }
+    if is_step(bytes) {
+        return judge_step(bytes, steps);
+    }
+    if is_channel(bytes, steps) {
+        return judge_channel(bytes, channels, metas);
+    }
+    REFUSED_TAG
+}
+
+// The list with one channel more.
+fn with_channel(list: ChannelList, c: Channel) -> ChannelList
+    requires { ⌜ list .count < maxChannels ⌝ }
+    ensures { λ r. ⌜ r ≡ withChannel list c ⌝ }
+{
+    let k = list.count;
+    let mut next = list;
+    next.widths[k] = c.width;
+    next.heights[k] = c.height;
+    next.hshifts[k] = c.hshift;
+    next.vshifts[k] = c.vshift;
+    next.count = k + 1;
+    next
+}
+
+// The steps with a field's step, which passes questions 3 and 4.
+fn with_step(steps: Steps, bytes: &[u8]) -> Steps
+    requires { ⌜ (Bytes.stepSize ≤ length (now bytes)) × (Reading.judgeStepField (now bytes) (steps .count) ≡ 0) ⌝ }
+    ensures { λ r. ⌜ r ≡ pushed steps (Reading.stepOf (now (bytes .entry))) ⌝ }
+{
+    let k = steps.count;
+    let mut next = steps;
+    next.flags[k] = bytes[3];
+    next.begins[k] = word(bytes[4], bytes[5]);
+    next.numbers[k] = word(bytes[6], bytes[7]);
+    next.count = k + 1;
+    next
+}
+
+// A refusal's number with neither list nor steps.
+fn refused(answer: u32) -> Record
+    ensures { λ r. ⌜ r ≡ Spec.packedForm (Reading.refused answer) ⌝ }
+{
+    Record {
+        answer,
+        list: ChannelList::empty(),
+        steps: Steps::empty(),
+    }
+}
+
+// Questions 1 to 4, field by field. `metas` says whether all channels so far
+// are meta; by question 4 the last one tells.
+fn read_form(bytes: &[u8]) -> Record
+    ensures { λ r. ⌜ r ≡ Spec.packedForm (Reading.formOf (now (bytes .entry))) ⌝ }
+{
+    let mut list = ChannelList::empty();
+    let mut steps = Steps::empty();
+    let mut metas = true;
+    let mut at = 0;
+    while at < bytes.len() {
+        let field = &bytes[at..];
+        let refusal = judge_field(field, list.count, metas, steps.count);
+        if refusal != 0 {
+            return refused(refusal);
+        }
+        if is_step(field) {
+            steps = with_step(steps, field);
+            at += STEP_SIZE;
+        } else {
+            let c = channel_of(field);
+            metas = c.is_meta();
+            list = with_channel(list, c);
+            at += CHANNEL_SIZE;
+        }
+    }
+    if list.count == 0 {
+        return refused(REFUSED_NUMBERS);
+    }
+    Record {
+        answer: 0,
+        list,
+        steps,
+    }
+}
+
+// The list and the steps of a record, by questions 1 to 11.
+pub fn read_record(bytes: &[u8]) -> Record
+    ensures { λ r. ⌜ r ≡ Spec.readOf (now (bytes .entry)) ⌝ }
+{
+    let form = read_form(bytes);
+    if form.answer != 0 {
+        return form;
+    }
+    let answer = plan::rewrite(form.list, form.steps).answer;
+    if answer != 0 {
+        return refused(answer);
+    }
+    form
+}
+
+// The two bytes of a number, least byte first.
+fn low(n: u16) -> u8
+    ensures { λ r. ⌜ r ≡ Bytes.low n ⌝ }
+{
+    (n % 256) as u8
+}
+
+fn high(n: u16) -> u8
+    ensures { λ r. ⌜ r ≡ Bytes.high n ⌝ }
+{
+    (n / 256) as u8
+}
+
+// "width 2, height 2, horizontal shift 1, vertical shift 1".
+fn channel_field(c: Channel) -> [u8; CHANNEL_SIZE]
+    ensures { λ r. ⌜ r ≡ Bytes.channelField c ⌝ }
+{
+    [
+        CHANNEL_TAG,
+        low(CHANNEL_LENGTH),
+        high(CHANNEL_LENGTH),
+        low(c.width),
+        high(c.width),
+        low(c.height),
+        high(c.height),
+        c.hshift,
+        c.vshift,
+    ]
+}
+
+// "flags 1 (bit 0 horizontal, bit 1 in place)".
+fn flags_of(step: Step) -> u8
+    ensures { λ r. ⌜ r ≡ StepsSpec.flagsOf step ⌝ }
+{
+    (step.horizontal as u8) + 2 * (step.inplace as u8)
+}
+
+// "flags 1, first channel 2, number 2".
+fn step_field(step: Step) -> [u8; STEP_SIZE]
+    ensures { λ r. ⌜ r ≡ Bytes.stepField step ⌝ }
+{
+    [
+        STEP_TAG,
+        low(STEP_LENGTH),
+        high(STEP_LENGTH),
+        flags_of(step),
+        low(step.begin),
+        high(step.begin),
+        low(step.number),
+        high(step.number),
+    ]
+}
+
+// A field's bytes into `out` from `at` on.
+fn store(field: &[u8], at: usize, out: &mut [u8])
+    requires { ⌜ at + length (now field) ≤ length (now out) ⌝ }
+    ensures { λ _. ⌜ now (out .exit) ≡ Bytes.placed (now (out .entry)) at (now (field .entry)) ⌝ }
+{
+    for k in 0..field.len() {
+        out[at + k] = field[k];
+    }
+}
+
+// The channels' fields, from the beginning of `out` on.
+fn write_channels(list: ChannelList, out: &mut [u8])
+    requires { ⌜ (list .count ≤ maxChannels) × (length (Bytes.channelFields (channels list)) ≤ length (now out)) ⌝ }
+    ensures { λ _. ⌜ now (out .exit) ≡ Bytes.placed (now (out .entry)) 0 (Bytes.channelFields (channels list)) ⌝ }
+{
+    let count = list.count;
+    let mut at = 0;
+    for k in 0..count {
+        let field = channel_field(list.channel(k));
+        store(&field, at, out);
+        at += CHANNEL_SIZE;
+    }
+}
+
+// The steps' fields, from `start` on.
+fn write_steps(steps: Steps, start: usize, out: &mut [u8])
+    requires { ⌜ (steps .count ≤ maxSteps) × (start + length (Bytes.stepFields (StepsSpec.steps steps)) ≤ length (now out)) ⌝ }
+    ensures { λ _. ⌜ now (out .exit) ≡ Bytes.placed (now (out .entry)) start (Bytes.stepFields (StepsSpec.steps steps)) ⌝ }
+{
+    let count = steps.count;
+    let mut at = start;
+    for k in 0..count {
+        let field = step_field(steps.step(k));
+        store(&field, at, out);
+        at += STEP_SIZE;
+    }
+}
+
+// Questions 3 to 11 and 14, then the record; bytes past it stay.
+pub fn write_record(list: ChannelList, steps: Steps, out: &mut [u8]) -> Written
+    ensures { λ r. ⌜ (r ≡ Spec.writtenOf list steps (now (out .entry))) × (now (out .exit) ≡ Spec.writtenBytes list steps (now (out .entry))) ⌝ }
+{
+    let answer = plan::rewrite(list, steps).answer;
+    if answer != 0 {
+        return Written { answer, length: 0 };
+    }
+    let start = CHANNEL_SIZE * list.count;
+    let length = start + STEP_SIZE * steps.count;
+    if out.len() < length {
+        return Written {
+            answer: REFUSED_SLICE,
+            length: 0,
+        };
+    }
+    write_channels(list, out);
+    write_steps(steps, start, out);
+    Written { answer: 0, length }
+}
