@@ -1,0 +1,257 @@
+// Replays lists, steps and plans (tests/lists.py made `stdin` of the published
+// Rust's answers and of cases by document 01's rules, and says how it is laid
+// out). Compares answers and whole arrays, and prints how many cases of each
+// kind there were and how many came out right.
+ghost use Prim.Native.Nat.{_+_, _<_, _≤_};
+use libc::STDIN_FILENO;
+use libc::STDOUT_FILENO;
+use list::ChannelList;
+use list::Step;
+use plan::Steps;
+use samples::sample_at;
+
+// Where the cases come from, and their kinds.
+const RUST: usize = 1;
+
+const OWN: usize = 2;
+
+const STEP: usize = 1;
+
+const PLAN: usize = 2;
+
+const DEFAULT: usize = 3;
+
+const COARSE: usize = 4;
+
+// The bytes of an entry of a list or a plan.
+const ENTRY: usize = 12;
+
+struct Score {
+    cases: u64,
+    right: u64,
+}
+
+// The number at `at`; 0 for a negative one.
+fn number_at(bytes: &[u8], at: usize) -> usize
+    ensures { λ r. ⌜ r < 0x8000_0000 ⌝ }
+{
+    let s = sample_at(bytes, at);
+    if s < 0 { 0 } else { s as usize }
+}
+
+fn number16_at(bytes: &[u8], at: usize) -> u16 {
+    let n = number_at(bytes, at);
+    if n < 0x1_0000 { n as u16 } else { 0 }
+}
+
+fn number8_at(bytes: &[u8], at: usize) -> u8 {
+    let n = number_at(bytes, at);
+    if n < 0x100 { n as u8 } else { 0 }
+}
+
+// Which of the `written` entries stands for entry `k`.
+fn entry(k: usize, written: usize) -> usize
+    ensures { λ r. ⌜ r ≤ k ⌝ }
+{
+    if k < written {
+        k
+    } else if 0 < written {
+        written - 1
+    } else {
+        0
+    }
+}
+
+// The bounds on `at`, here and below, keep sums of places from wrapping.
+fn list_at(bytes: &[u8], at: usize) -> ChannelList
+    requires { ⌜ at < 0xA000_0000_0000_0000 ⌝ }
+{
+    let count = number_at(bytes, at);
+    let written = number_at(bytes, at + 4);
+    let mut list = ChannelList::empty();
+    list.count = count;
+    for k in 0..ChannelList::MAX_CHANNELS {
+        let e = at + 8 + ENTRY * entry(k, written);
+        let width = number16_at(bytes, e);
+        let height = number16_at(bytes, e + 4);
+        let shifts = number16_at(bytes, e + 8);
+        list.widths[k] = width;
+        list.heights[k] = height;
+        list.hshifts[k] = (shifts % 0x100) as u8;
+        list.vshifts[k] = (shifts / 0x100) as u8;
+    }
+    list
+}
+
+// Where what stands after a list or a plan begins.
+fn array_end(bytes: &[u8], at: usize) -> usize
+    requires { ⌜ at < 0xA000_0000_0000_0000 ⌝ }
+    ensures { λ r. ⌜ r ≤ at + 0x6_0000_0008 ⌝ }
+{
+    at + 8 + ENTRY * number_at(bytes, at + 4)
+}
+
+fn steps_at(bytes: &[u8], at: usize) -> Steps
+    requires { ⌜ at < 0xA000_0000_0000_0000 ⌝ }
+{
+    let count = number_at(bytes, at);
+    let written = number_at(bytes, at + 4);
+    let mut steps = Steps::empty();
+    steps.count = count;
+    for k in 0..ChannelList::MAX_STEPS {
+        let e = at + 8 + ENTRY * entry(k, written);
+        let flags = number8_at(bytes, e);
+        let begin = number16_at(bytes, e + 4);
+        let number = number16_at(bytes, e + 8);
+        steps.flags[k] = flags;
+        steps.begins[k] = begin;
+        steps.numbers[k] = number;
+    }
+    steps
+}
+
+fn same_list(a: ChannelList, b: ChannelList) -> bool {
+    let mut same = a.count == b.count;
+    for k in 0..ChannelList::MAX_CHANNELS {
+        same = same
+            & (a.widths[k] == b.widths[k])
+            & (a.heights[k] == b.heights[k])
+            & (a.hshifts[k] == b.hshifts[k])
+            & (a.vshifts[k] == b.vshifts[k]);
+    }
+    same
+}
+
+fn same_steps(a: Steps, b: Steps) -> bool {
+    let mut same = a.count == b.count;
+    for k in 0..ChannelList::MAX_STEPS {
+        same = same
+            & (a.flags[k] == b.flags[k])
+            & (a.begins[k] == b.begins[k])
+            & (a.numbers[k] == b.numbers[k]);
+    }
+    same
+}
+
+// The list that is to come out: the one at `at`, after a refusal the one that
+// went in.
+fn list_after(bytes: &[u8], at: usize, answer: usize, list: ChannelList) -> ChannelList
+    requires { ⌜ at < 0xA000_0000_0000_0000 ⌝ }
+{
+    if answer == 0 {
+        list_at(bytes, at)
+    } else {
+        list
+    }
+}
+
+fn step_agrees(bytes: &[u8], at: usize) -> bool
+    requires { ⌜ at < 0x9000_0000_0000_0000 ⌝ }
+{
+    let list = list_at(bytes, at);
+    let end = array_end(bytes, at);
+    let step = Step {
+        horizontal: number_at(bytes, end) == 1,
+        inplace: number_at(bytes, end + 4) == 1,
+        begin: number16_at(bytes, end + 8),
+        number: number16_at(bytes, end + 12),
+    };
+    let answer = number_at(bytes, end + 20);
+    let stepped = list.step(step);
+    (list.check_squeeze_params(step) as usize == number_at(bytes, end + 16))
+        & (stepped.answer as usize == answer)
+        & same_list(stepped.list, list_after(bytes, end + 24, answer, list))
+}
+
+fn plan_agrees(bytes: &[u8], at: usize) -> bool
+    requires { ⌜ at < 0x9000_0000_0000_0000 ⌝ }
+{
+    let list = list_at(bytes, at);
+    let middle = array_end(bytes, at);
+    let end = array_end(bytes, middle);
+    let answer = number_at(bytes, end);
+    let rewritten = plan::rewrite(list, steps_at(bytes, middle));
+    (rewritten.answer as usize == answer)
+        & same_list(rewritten.list, list_after(bytes, end + 4, answer, list))
+}
+
+fn default_agrees(bytes: &[u8], at: usize) -> bool
+    requires { ⌜ at < 0x9000_0000_0000_0000 ⌝ }
+{
+    let end = array_end(bytes, at);
+    let planned = plan::default_squeeze(list_at(bytes, at));
+    let answer = planned.answer as usize;
+    (answer == number_at(bytes, end)) & same_steps(planned.steps, steps_at(bytes, end + 4))
+}
+
+fn coarse_agrees(bytes: &[u8], at: usize) -> bool
+    requires { ⌜ at < 0x9000_0000_0000_0000 ⌝ }
+{
+    plan::coarse_count(list_at(bytes, at)) == number_at(bytes, array_end(bytes, at))
+}
+
+fn agrees(bytes: &[u8], at: usize, kind: usize) -> bool
+    requires { ⌜ at < 0x9000_0000_0000_0000 ⌝ }
+{
+    match kind {
+        STEP => step_agrees(bytes, at),
+        PLAN => plan_agrees(bytes, at),
+        DEFAULT => default_agrees(bytes, at),
+        COARSE => coarse_agrees(bytes, at),
+        _ => false,
+    }
+}
+
+// The case at `at`, if it is of this source and kind.
+fn score_at(bytes: &[u8], at: usize, source: usize, kind: usize) -> Score
+    requires { ⌜ at < 0x8000_0000_0000_0000 ⌝ }
+    ensures { λ r. ⌜ (r .cases ≤ 1) × (r .right ≤ 1) ⌝ }
+{
+    if (number_at(bytes, at) != source) | (number_at(bytes, at + 4) != kind) {
+        return Score { cases: 0, right: 0 };
+    }
+    if agrees(bytes, at + 12, kind) {
+        Score { cases: 1, right: 1 }
+    } else {
+        Score { cases: 1, right: 0 }
+    }
+}
+
+// All cases of one source and kind.
+fn tally(bytes: &[u8], source: usize, kind: usize) -> Score {
+    let mut cases = 0u64;
+    let mut right = 0u64;
+    let mut at = 0;
+    while at < bytes.len() {
+        let score = score_at(bytes, at, source, kind);
+        cases += score.cases;
+        right += score.right;
+        at = at + 12 + 4 * number_at(bytes, at + 8);
+    }
+    Score { cases, right }
+}
+
+// "what", the cases and how many of them are right, on one line.
+fn say(what: &[u8], t: Score) {
+    io::write_all(STDOUT_FILENO, what);
+    io::print_decimal(STDOUT_FILENO, t.cases);
+    io::write_all(STDOUT_FILENO, b" right ");
+    io::print_decimal(STDOUT_FILENO, t.right);
+    io::write_all(STDOUT_FILENO, b"\n");
+}
+
+fn report(bytes: &[u8]) {
+    say(b"Rust, steps ", tally(bytes, RUST, STEP));
+    say(b"Rust, plans ", tally(bytes, RUST, PLAN));
+    say(b"Rust, default plans ", tally(bytes, RUST, DEFAULT));
+    say(b"own, steps ", tally(bytes, OWN, STEP));
+    say(b"own, plans ", tally(bytes, OWN, PLAN));
+    say(b"own, default plans ", tally(bytes, OWN, DEFAULT));
+    say(b"own, coarse counts ", tally(bytes, OWN, COARSE));
+}
+
+fn main() {
+    let mut buffer = [0u8; 524288];
+    let n = io::read_full(STDIN_FILENO, &mut buffer);
+    report(&buffer[..n]);
+}

@@ -1,0 +1,424 @@
+#!/usr/bin/env python3
+"""Makes crates/list_test/stdin: lists, steps and plans with the answers they must get.
+
+usage: tests/lists.py LIST.TXT DEFAULT.TXT > crates/list_test/stdin
+
+LIST.TXT and DEFAULT.TXT are answers of the published Rust, one case to a line: `list CHANNELS | STEPS => ok LIST /
+LIST ..`, where a refused step ends the answer with `error NAME`, and `default CHANNELS => ok STEPS` or `panic`. A
+channel is `W H HS VS` or `W H m m`, a step `h|v in|out FIRST NUMBER`. Document 01 refuses some of what the Rust lets
+through: INSTEAD has every such difference. The other cases are made here by document 01's rules, those that it names
+itself as rows with the answer written out.
+
+The stream is samples of four bytes, least byte first. A case is its source (1 the Rust, 2 the rules), its kind (1 to 4
+as below), how many samples follow, and these:
+    step    list, step, answer to questions 7 to 11, answer of the list's step, list afterwards if that is 0
+    plan    list, plan, answer, list afterwards if that is 0
+    default list, answer, plan
+    coarse  list, coarse count
+where
+    list    count, how many entries follow, width, height and hshift + 256 * vshift of each
+    plan    count, how many entries follow, flags, first and number of each
+    step    1 if horizontal, 1 if in place, first, number
+and the last entry that follows stands for the rest of its array too.
+"""
+import struct
+import sys
+
+MAX_CHANNELS, MAX_STEPS, MAX_SAMPLES, MAX_SHIFT, META, STOPPING_SIDE = 256, 64, 16_777_216, 30, 255, 8
+RUST, OWN = 1, 2
+STEP, PLAN, DEFAULT, COARSE = 1, 2, 3, 4
+PROGRAM_READS = 524_288
+
+# ---- document 01's rules. A channel is (width, height, hshift, vshift), a step (horizontal, in place, first, number).
+is_meta = lambda c: c[2] == META and c[3] == META
+halved = lambda side: (side + 1) // 2
+total = lambda channels: sum(w * h for w, h, _, _ in channels)
+
+
+def judge_list(channels):
+    if not 1 <= len(channels) <= MAX_CHANNELS:
+        return 3
+    metas = [is_meta(c) for c in channels]
+    allowed = all(m or (c[2] <= MAX_SHIFT and c[3] <= MAX_SHIFT) for m, c in zip(metas, channels))
+    if not allowed or metas != sorted(metas, reverse=True):
+        return 4
+    return 5 if total(channels) > MAX_SAMPLES else 0
+
+
+def raised(horizontal, c):
+    w, h, hs, vs = c
+    return c if is_meta(c) else (w, h, hs + 1, vs) if horizontal else (w, h, hs, vs + 1)
+
+
+def judge_step(step, channels):
+    horizontal, inplace, first, number = step
+    if number < 1 or first + number > len(channels):
+        return 6
+    part = channels[first:first + number]
+    if is_meta(part[0]) != is_meta(part[-1]):
+        return 7
+    if is_meta(part[0]) and not inplace:
+        return 8
+    if any(w == 0 or h == 0 for w, h, _, _ in part):
+        return 9
+    shifts = [raised(horizontal, c) for c in part if not is_meta(c)]
+    if len(channels) + number > MAX_CHANNELS or any(max(c[2:]) > MAX_SHIFT for c in shifts):
+        return 10
+    return 0
+
+
+def take_step(step, channels):
+    horizontal, inplace, first, number = step
+    averages, residuals = [], []
+    for w, h, hs, vs in channels[first:first + number]:
+        a = (halved(w), h, hs, vs) if horizontal else (w, halved(h), hs, vs)
+        r = (w - halved(w), h, hs, vs) if horizontal else (w, h - halved(h), hs, vs)
+        averages.append(raised(horizontal, a))
+        residuals.append(raised(horizontal, r))
+    before, after = channels[:first], channels[first + number:]
+    return before + averages + (residuals + after if inplace else after + residuals)
+
+
+def default_steps(channels):
+    m = next(k for k, c in enumerate(channels) if not is_meta(c))
+    n = len(channels) - m
+    w, h = channels[m][:2]
+    steps = []
+    if n > 2 and channels[m + 1][:2] == (w, h):
+        steps += [(horizontal, 0, m + 1, 2) for horizontal, side in ((1, w), (0, h)) if side > 1]
+    if w <= h and h > STOPPING_SIDE:
+        steps.append((0, 1, m, n))
+        h = halved(h)
+    while max(w, h) > STOPPING_SIDE:
+        if w > STOPPING_SIDE:
+            steps.append((1, 1, m, n))
+            w = halved(w)
+        if h > STOPPING_SIDE:
+            steps.append((0, 1, m, n))
+            h = halved(h)
+    return steps
+
+
+# ---- a list as flat arrays hold it: a count, and entries of which those past the count mean nothing
+def held(channels, unused=(), count=None):
+    return (len(channels) if count is None else count, list(channels) + list(unused))
+
+
+def meant(flat):
+    count, entries = flat
+    return (entries + [(0, 0, 0, 0)] * MAX_CHANNELS)[:min(count, MAX_CHANNELS)]
+
+
+def judge_flat(flat):
+    return judge_list(meant(flat)) if flat[0] <= MAX_CHANNELS else 3
+
+
+# ---- a plan as flat arrays hold it: a count, and (flags, first, number) entries
+def plan_of(steps, unused=(), count=None):
+    return (len(steps) if count is None else count, [(h + 2 * i, f, n) for h, i, f, n in steps] + list(unused))
+
+
+def judge_plan(flat, plan):
+    """The answer to questions 3 to 11, and the list that the plan leaves."""
+    count, entries = plan
+    channels = meant(flat)
+    form = judge_flat(flat)
+    if form == 3 or count > MAX_STEPS:
+        return 3, flat
+    if form == 4 or any(flags > 3 for flags, _, _ in entries[:count]):
+        return 4, flat
+    if form:
+        return form, flat
+    if count == 0 and all(is_meta(c) for c in channels):
+        return 11, flat
+    steps = [(flags % 2, flags // 2, f, n) for flags, f, n in entries[:count]] or default_steps(channels)
+    for step in steps:
+        answer = judge_step(step, channels)
+        if answer:
+            return answer, flat
+        channels = take_step(step, channels)
+    return 0, held(channels)
+
+
+# ---- the stream
+cases = {}
+
+
+def put(source, kind, *parts):
+    samples = [x for part in parts for x in part]
+    cases.setdefault(struct.pack('<%di' % (len(samples) + 3), source, kind, len(samples), *samples))
+
+
+def array_samples(arrays, zeros, size):
+    count, entries = arrays
+    entries = entries + [zeros] * (size - len(entries))
+    written = size
+    while written > 1 and entries[written - 1] == entries[written - 2]:
+        written -= 1
+    return [count, written] + [x for entry in entries[:written] for x in entry]
+
+
+def list_samples(flat):
+    count, entries = flat
+    return array_samples((count, [(w, h, hs + 256 * vs) for w, h, hs, vs in entries]), (0, 0, 0), MAX_CHANNELS)
+
+
+def plan_samples(plan):
+    return array_samples(plan, (0, 0, 0), MAX_STEPS)
+
+
+def put_step(source, flat, step, question, answer, after):
+    put(source, STEP, list_samples(flat), step, [question, answer], [] if answer else list_samples(after))
+
+
+def put_plan(source, flat, plan, answer, after):
+    put(source, PLAN, list_samples(flat), plan_samples(plan), [answer], [] if answer else list_samples(after))
+
+
+def put_default(source, flat, answer, plan):
+    put(source, DEFAULT, list_samples(flat), [answer], plan_samples(plan))
+
+
+def put_coarse(flat):
+    sides = [max(c[:2]) for c in meant(flat)]
+    coarse = [side <= STOPPING_SIDE for side in sides]
+    put(OWN, COARSE, list_samples(flat), [coarse.index(False) if False in coarse else len(coarse)])
+
+
+# ---- the Rust's answers
+REFUSALS = {'InvalidChannelRange': 6, 'MixingDifferentChannels': 7, 'MetaSqueezeRequiresInPlace': 8,
+            'TooManySqueezes': 9}
+
+# Where document 01 refuses and the Rust does not: the refusal, the difference, and which calls it concerns.
+INSTEAD = {
+    5: ('samples above the limit; the Rust has `TransformLimits`', lambda channels: total(channels) > MAX_SAMPLES),
+    6: ('number 0; the Rust behaves in several ways', lambda channels, step: step[3] == 0),
+    10: ('a shift above 30; the Rust lets 31 through', lambda channels, step: judge_step(step, channels) == 10),
+    11: ('a default plan without a plain channel; the Rust panics', lambda channels: all(map(is_meta, channels))),
+}
+adjusted = dict.fromkeys(INSTEAD, 0)
+
+
+def instead(number, *call):
+    """`number` if document 01 gives that refusal to the call where the Rust does not, else 0."""
+    if not INSTEAD[number][1](*call):
+        return 0
+    adjusted[number] += 1
+    return number
+
+
+def channels_of(text):
+    words = [channel.split() for channel in text.split(';')] if text.strip() else []
+    return [(int(w), int(h), META if hs == 'm' else int(hs), META if vs == 'm' else int(vs)) for w, h, hs, vs in words]
+
+
+def steps_of(text):
+    words = [step.split() for step in text.split(';')] if text.strip() else []
+    return [(int(d == 'h'), int(place == 'in'), int(first), int(number)) for d, place, first, number in words]
+
+
+def rust_list(text):
+    call, answers = text.removeprefix('list ').split('=>')
+    start, steps = call.split('|')
+    start, steps = channels_of(start), steps_of(steps)
+    channels, answer = start, 0
+    for step, said in zip(steps, answers.strip().removeprefix('ok').split('/')):
+        refused = REFUSALS[said.split()[1]] if said.split()[0] == 'error' else 0
+        question = instead(6, channels, step) or refused or instead(10, channels, step)
+        answer = instead(5, channels) or question
+        after = channels if answer else channels_of(said)
+        put_step(RUST, held(channels), step, question, answer, held(after))
+        if answer:
+            break
+        channels = after
+    put_plan(RUST, held(start), plan_of(steps), answer, held(start if answer else channels))
+    if not answer:
+        put_coarse(held(channels))
+
+
+def rust_default(text):
+    call, said = text.removeprefix('default ').split('=>')
+    channels, said = channels_of(call), said.strip()
+    answer = instead(5, channels) or said == 'panic' and instead(11, channels)
+    steps = [] if answer else steps_of(said.removeprefix('ok'))
+    put_default(RUST, held(channels), answer, plan_of(steps))
+
+
+# ---- cases of our own, by the rules above
+def own_step(flat, step):
+    channels = meant(flat)
+    question = judge_step(step, channels)
+    answer = judge_flat(flat) or question
+    put_step(OWN, flat, step, question, answer, flat if answer else held(take_step(step, channels)))
+    return answer
+
+
+def own_plan(flat, plan):
+    answer, after = judge_plan(flat, plan)
+    put_plan(OWN, flat, plan, answer, after)
+    if not answer:
+        put_coarse(after)
+    return answer
+
+
+def own_default(flat):
+    channels = meant(flat)
+    answer = judge_flat(flat) or (11 if all(map(is_meta, channels)) else 0)
+    put_default(OWN, flat, answer, plan_of([] if answer else default_steps(channels)))
+    own_plan(flat, plan_of([]))
+    return answer
+
+
+# Channels, a step, the answer and why; `N *` repeats a channel.
+STEP_ROWS = """
+4 4 29 0                           | h in 0 1        | 0  | a shift of 30
+4 4 30 0                           | h in 0 1        | 10 | a shift of 31
+4 4 0 30                           | v out 0 1       | 10 | a shift of 31
+4 4 30 0                           | v in 0 1        | 0  | the other shift stays
+6 5 0 0 ; 4 4 30 0                 | h in 0 2        | 10 | the last channel of the range counts
+4 4 31 0                           | v in 0 1        | 4  | a shift of 31 comes in
+4 4 m 0                            | h in 0 1        | 4  | meta in one direction only
+7 3 m m                            | h in 0 1        | 0  | meta stays meta
+255 * 2 2 0 0                      | h in 0 1        | 0  | 256 channels
+256 * 2 2 0 0                      | h in 0 1        | 10 | 257 channels
+128 * 2 2 0 0                      | v out 0 128     | 0  | 256 channels
+129 * 2 2 0 0                      | v out 0 128     | 10 | 257 channels
+257 * 2 2 0 0                      | h in 0 1        | 3  | 257 channels come in
+                                   | h in 0 1        | 3  | no channel comes in
+3 * 6 5 0 0                        | h in 1 2        | 0  | the range ends at the count
+3 * 6 5 0 0                        | h in 1 3        | 6  | it ends past the count
+3 * 6 5 0 0                        | h in 3 1        | 6  | it starts at the count
+3 * 6 5 0 0                        | h in 65535 65535 | 6 | its end needs 17 bits
+3 * 6 5 0 0                        | h in 0 0        | 6  | number 0
+3 * 6 5 0 0                        | h in 3 0        | 6  | number 0 at the count
+0 5 0 0                            | v in 0 1        | 9  | side 0
+5 0 0 0                            | v in 0 1        | 9  | side 0
+1 1 0 0                            | h in 0 1        | 0  | side 1: a residual of side 0
+2 2 0 0                            | v in 0 1        | 0  | side 2
+6 5 0 0 ; 0 5 0 0                  | h in 0 1        | 0  | side 0 outside the range
+7 3 m m ; 7 3 m m                  | v in 0 2        | 0  | a meta range
+7 3 m m ; 6 5 0 0                  | h in 0 2        | 7  | a range across the kinds
+7 3 m m ; 6 5 0 0                  | h out 0 1       | 8  | a meta range not in place
+6 5 0 0 ; 7 3 m m                  | h in 0 1        | 4  | a meta channel after a plain one
+4096 4096 0 0                      | h in 0 1        | 0  | samples at the limit
+4096 4096 0 0 ; 1 1 0 0            | h in 0 1        | 5  | one sample more
+1 1 m m ; 4096 4096 0 0            | h in 1 1        | 5  | meta samples count
+256 * 65535 65535 0 0              | h in 0 1        | 5  | the largest sum
+257 * 4 4 31 0                     | h in 0 1        | 3  | 3 before 4
+4 4 31 0 ; 65535 65535 0 0         | h in 0 1        | 4  | 4 before 5
+65535 65535 0 0                    | h in 0 0        | 5  | 5 before 6
+7 3 m m ; 6 5 0 0                  | h out 0 3       | 6  | 6 before 7 and 8
+7 3 m m ; 0 5 0 0                  | h out 0 2       | 7  | 7 before 8 and 9
+0 3 m m                            | h out 0 1       | 8  | 8 before 9
+0 4 30 0                           | h in 0 1        | 9  | 9 before 10
+256 * 0 4 0 0                      | h in 0 256      | 9  | 9 before 10
+"""
+
+
+def row_channels(text):
+    times, star, channel = text.rpartition('*')
+    channels = channels_of(channel) * int(times or 1)
+    return held(channels[:MAX_CHANNELS], count=len(channels))
+
+
+def step_rows():
+    for row in STEP_ROWS.strip('\n').split('\n'):
+        channels, step, answer, why = row.split('|')
+        assert own_step(row_channels(channels), steps_of(step)[0]) == int(answer), why
+
+
+plain, wide, tall, meta, late = (6, 5, 0, 0), (9, 4, 1, 0), (4, 9, 0, 1), (7, 3, META, META), (600, 9, 25, 0)
+junk = [(65535, 0, 31, 255), (3, 9, 0, 0), (0, 65535, 255, 255)] + [(65535, 65535, 255, 1)] * MAX_CHANNELS
+
+
+def plan_rows():
+    many = held([(2, 2, 0, 0)] * 64)
+    steps = [(k % 2, 0, k, 1) for k in range(64)]
+    unused = [(255, 65535, 65535)]
+    two = held([plain, wide])
+    for why, flat, plan, answer in (
+            ('64 steps', many, plan_of(steps), 0),
+            ('65 steps', many, plan_of(steps, count=65), 3),
+            ('more steps than 16 bits hold', many, plan_of(steps, count=2147483647), 3),
+            ('an unused step of any value', many, plan_of(steps[:63], unused), 0),
+            ('the same step in use', many, plan_of(steps[:63], unused, count=64), 4),
+            ('the last step past the count', many, plan_of(steps[:63] + [(1, 0, 127, 1)]), 6),
+            ('the last step at the count', many, plan_of(steps[:63] + [(1, 0, 126, 1)]), 0),
+            ('no step in use: the default plan', many, plan_of([], unused * 64), 0),
+            ('every flag', two, (2, [(3, 0, 1), (3, 1, 1)]), 0),
+            ('flag bit 2', two, (2, [(3, 0, 1), (4, 1, 1)]), 4),
+            ('flag bit 7', two, (2, [(131, 0, 1), (0, 1, 1)]), 4),
+            ('a residual of side 0 is stepped', held([(1, 1, 0, 0)]), plan_of([(1, 1, 0, 1), (1, 1, 1, 1)]), 9),
+            ('3 of the steps before 4', held([plain, meta]), plan_of(steps, count=65), 3),
+            ('4 of the steps before 5', held([(65535, 65535, 0, 0)]), (1, [(4, 0, 1)]), 4),
+            ('5 before 11', held([(65535, 65535, META, META)]), plan_of([]), 5),
+            ('the default plan without a plain channel', held([meta] * 3), plan_of([]), 11),
+            ('a plan without a plain channel', held([meta] * 3), plan_of([(1, 1, 0, 3)]), 0),
+            ('the default plan meets a side 0', held([(20, 20, 0, 0), (0, 5, 0, 0)]), plan_of([]), 9),
+            ('the default plan meets a shift of 31', held([late]), plan_of([]), 10),
+            ('the default plan meets 257 channels', held([(9, 9, 0, 0)] * 85), plan_of([]), 10),
+            ('the default plan meets 256 channels', held([(9, 9, 0, 0)] * 64), plan_of([]), 0)):
+        assert own_plan(flat, plan) == answer, why
+
+
+def sweeps():
+    # every shift about the limit and about 255, each direction and place
+    for shift in (28, 29, 30, 31, 32, 254, 255):
+        for channel in ((4, 4, shift, 0), (4, 4, 0, shift), (4, 4, shift, shift)):
+            for horizontal in (0, 1):
+                own_step(held([channel]), (horizontal, 1, 0, 1))
+                own_step(held([plain, plain, channel]), (horizontal, 0, 0, 3))
+            own_default(held([plain, channel]))
+
+    # every range of some lists, each direction and place
+    for channels in ([plain], [plain, wide, tall], [meta, meta, wide, tall], [meta] * 3):
+        for first in range(len(channels) + 2):
+            for number in range(len(channels) + 2):
+                for k in range(4):
+                    own_step(held(channels), (k % 2, k // 2, first, number))
+
+    # sides 0, 1, 2 and about the stopping side, and the residuals that they leave
+    for w in (0, 1, 2, 3, 8, 9):
+        for h in (0, 1, 2, 3, 8, 9):
+            for k in range(4):
+                own_step(held([plain, (w, h, 0, 0)]), (k % 2, k // 2, 0, 2))
+            own_plan(held([(w, h, 0, 0)]), plan_of([(1, 1, 0, 1), (1, 0, 1, 1), (0, 1, 0, 2)]))
+            own_default(held([(w, h, 0, 0)]))
+
+    # unused entries of any value: they change no answer, a step leaves zeros, a refusal leaves them
+    for channels in ([], [plain], [meta, plain, wide], [plain] * 255, [meta]):
+        flat = held(channels, junk[:MAX_CHANNELS - len(channels)])
+        own_step(flat, (1, 1, 0, 1))
+        own_step(flat, (0, 0, 0, 1))
+        own_step(flat, (0, 1, len(channels), 1))
+        own_plan(flat, plan_of([(1, 1, 0, 1), (0, 0, 0, 1)], [(255, 65535, 65535)] * 62))
+        own_default(flat)
+        put_coarse(flat)
+
+    # default plans: chroma or not, meta channels before, second channels that differ, counts, sides up to the largest
+    sizes = (1, 1), (1, 9), (9, 1), (2, 2), (8, 8), (8, 9), (9, 8), (9, 9), (17, 16), (65535, 1), (1, 65535), (300, 4000)
+    for w, h in sizes:
+        first, wider, taller = (w, h, 0, 0), (w % 65535 + 1, h, 0, 0), (w, h % 65535 + 1, 0, 0)
+        for others in ([], [first], [first] * 2, [first, tall], [wider] * 2, [taller] * 2, [tall, first]):
+            own_default(held([first] + others))
+        own_default(held([meta] * 2 + [first] * 3))
+    for count in (0, 1, 128, 255, 256, 257, 2147483647):
+        own_default(held([(9, 9, 0, 0)] * min(count, MAX_CHANNELS), count=count))
+        put_coarse(held([(8, 8, 0, 0)] * min(count, MAX_CHANNELS), count=count))
+    own_default(held([meta] * 255 + [(9, 9, 0, 0)]))
+
+
+if __name__ == '__main__':
+    lists, defaults = sys.argv[1:]
+    for text in open(lists):
+        rust_list(text)
+    for text in open(defaults):
+        rust_default(text)
+    step_rows()
+    plan_rows()
+    sweeps()
+    stream = b''.join(cases)
+    assert len(stream) <= PROGRAM_READS
+    sys.stdout.buffer.write(stream)
+    for number, count in adjusted.items():
+        print('refusal %d instead of the Rust in %d cases: %s' % (number, count, INSTEAD[number][0]), file=sys.stderr)
