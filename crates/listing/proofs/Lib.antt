@@ -1,0 +1,5 @@
+pub mod Puts
+pub mod Digits
+pub mod Held
+pub mod Outcomes
+pub mod Rows

@@ -1,0 +1,43 @@
+-- The listing of a record (document 01, "Proved table", the program squeeze-list): the steps of its plan, the default plan by its steps, the
+-- rewritten list and the coarse count; or "A refusal is one line, `refused` and the number". Definitions only.
+use mathlib.Core.Bool.{cond}
+use mathlib.Core.List.{List, _++_}
+use Prim.Native.Nat.{ℕ}
+use lib.Dec.{eqb, leb}
+use lib.ListN.{length, drop}
+use Rattle.channel.specs.declared.Channel.{Channel}
+use Rattle.list.specs.declared.Step.{Step}
+use Rattle.plan.specs.Default.{stoppingSide, coarseCount}
+use Rattle.plan.specs.Plans.{meant, steppedAll}
+use Rattle.record.specs.Reading.{formOf}
+use Rattle.record.specs.Records.{readAnswer}
+use Rattle.listing.specs.declared.Listed.{Listed}
+use Rattle.listing.specs.Text.{stepsWord, channelsWord, coarseWord, refusedWord, numbered, stepLines, channelLines}
+
+-- the lines of a plan's steps and of the list that it leaves
+unfoldable pub planText : List Step → List Channel → List ℕ
+planText ss cs =
+    numbered stepsWord (length ss)
+    ++ (stepLines ss
+    ++ (numbered channelsWord (length cs)
+    ++ (channelLines cs ++ numbered coarseWord (coarseCount stoppingSide cs))))
+
+abbrev pub stepsOf : List ℕ → List Step
+stepsOf bytes = meant (formOf bytes .steps) (formOf bytes .channels)
+
+unfoldable pub listing : List ℕ → List ℕ
+listing bytes =
+    cond (eqb (readAnswer bytes) 0)
+    (planText (stepsOf bytes) (steppedAll (stepsOf bytes) (formOf bytes .channels)))
+    (numbered refusedWord (readAnswer bytes))
+
+-- the text over the front of a slice that has room for it (question 14: 12), and the rest as it was
+unfoldable pub listed : List ℕ → List ℕ → Listed
+listed bytes text =
+    cond (leb (length (listing bytes)) (length text))
+    (record { answer = 0; length = length (listing bytes) })
+    (record { answer = 12; length = 0 })
+
+unfoldable pub textAfter : List ℕ → List ℕ → List ℕ
+textAfter bytes text =
+    cond (leb (length (listing bytes)) (length text)) (listing bytes ++ drop (length (listing bytes)) text) text

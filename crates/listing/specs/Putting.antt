@@ -1,0 +1,38 @@
+-- A text that is put into a slice part after part, for the contracts of the functions that do so, and how much room a part may take.
+-- Definitions only.
+use mathlib.Core.Path.{_≡_}
+use mathlib.Core.List.{List, [], _∷_}
+use Prim.Native.Nat.{ℕ, _+_, _/_, _%_, _≤_}
+use lib.ListN.{length, drop}
+use Rattle.record.specs.Bytes.{placed}
+use Rattle.listing.specs.Text.{digit, decimal}
+
+-- `new` is put into a text from `at` on and ends at `end`; what stood before it and after it stays
+pub record Put (new : List ℕ) (at : ℕ) (before after : List ℕ) (end : ℕ) : Type 0 where
+  pub ends : end ≡ at + length new
+  pub inside : end ≤ length before
+  pub so : after ≡ placed before at new
+
+-- room for a number, which has at most five digits, for the longest step line, "v out 65535 65535", for any channel line, and for any listing
+abbrev pub numberRoom : ℕ
+numberRoom = 5
+
+abbrev pub stepRoom : ℕ
+stepRoom = 18
+
+abbrev pub channelRoom : ℕ
+channelRoom = 24
+
+abbrev pub listingRoom : ℕ
+listingRoom = 8192
+
+-- ---- numbers
+-- the last five decimal digits of a number
+unfoldable pub fiveDigits : ℕ → List ℕ
+fiveDigits n =
+    digit (n / 10 / 10 / 10 / 10 % 10) ∷ digit (n / 10 / 10 / 10 % 10) ∷ digit (n / 10 / 10 % 10) ∷ digit (n / 10 % 10) ∷ digit (n % 10) ∷ []
+
+-- `vain` of them lead in vain: the rest are the number's digits
+pub record Digits (n vain : ℕ) : Type 0 where
+  pub count : vain + length (decimal n) ≡ numberRoom
+  pub rest : drop vain (fiveDigits n) ≡ decimal n

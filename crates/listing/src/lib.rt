@@ -1,0 +1,253 @@
+// The listing of a record (document 01, the program squeeze-list): record bytes
+// in, text bytes out. Total.
+ghost use mathlib.Core.Path.{_≡_};
+ghost use Prim.Native.Nat.{_+_, _*_, _%_, _≤_};
+ghost use lib.ListN.{length};
+ghost use Rattle.list.specs.Lists.{maxChannels, maxSteps, channels};
+ghost use Rattle.plan.specs.Steps as StepsSpec;
+ghost use Rattle.plan.specs.Plans.{meant, judgePlan};
+ghost use Rattle.listing.specs.Text as Text;
+ghost use Rattle.listing.specs.Putting as Putting;
+ghost use Rattle.listing.specs.Putting.{Put};
+ghost use Rattle.listing.specs.Listing as Spec;
+use channel::Channel;
+use list::ChannelList;
+use list::Step;
+use plan::Steps;
+
+// The answer 0 with the text's length, or 12 where the slice has no room.
+pub struct Listed {
+    pub answer: u32,
+    pub length: usize,
+}
+
+// Room for any listing: at most 64 step lines and 256 channel lines.
+pub const LISTING_ROOM: usize = 8192;
+
+// The refusal of question 14.
+const REFUSED_SLICE: u32 = 12;
+
+// `word` into `text` from `at` on. Here and below the result is where the new
+// part ends.
+fn put_word(word: &[u8], at: usize, text: &mut [u8]) -> usize
+    requires { ⌜ at + length (now word) ≤ length (now text) ⌝ }
+    ensures { λ r. ⌜ Put (now (word .entry)) at (now (text .entry)) (now (text .exit)) r ⌝ }
+{
+    for k in 0..word.len() {
+        text[at + k] = word[k];
+    }
+    at + word.len()
+}
+
+// The character of the last digit.
+fn digit(n: usize) -> u8
+    ensures { λ r. ⌜ r ≡ Text.digit (n % 10) ⌝ }
+{
+    48 + (n % 10) as u8
+}
+
+fn five_digits(n: usize) -> [u8; 5]
+    ensures { λ r. ⌜ r ≡ Putting.fiveDigits n ⌝ }
+{
+    let tens = n / 10;
+    let hundreds = tens / 10;
+    let thousands = hundreds / 10;
+    [
+        digit(thousands / 10),
+        digit(thousands),
+        digit(hundreds),
+        digit(tens),
+        digit(n),
+    ]
+}
+
+// How many of the five digits lead in vain.
+fn vain_digits(n: usize) -> usize
+    ensures { λ r. ⌜ Putting.Digits n r ⌝ }
+{
+    if n < 10 {
+        return 4;
+    }
+    if n < 100 {
+        return 3;
+    }
+    if n < 1000 {
+        return 2;
+    }
+    if n < 10000 {
+        return 1;
+    }
+    0
+}
+
+fn put_number(n: usize, at: usize, text: &mut [u8]) -> usize
+    requires { ⌜ at + Putting.numberRoom ≤ length (now text) ⌝ }
+    ensures { λ r. ⌜ Put (Text.decimal n) at (now (text .entry)) (now (text .exit)) r ⌝ }
+    ensures room { λ r. ⌜ r ≤ at + Putting.numberRoom ⌝ }
+{
+    let digits = five_digits(n);
+    let vain = vain_digits(n);
+    put_word(&digits[vain..], at, text)
+}
+
+// "steps 3".
+fn put_numbered(word: &[u8], n: usize, at: usize, text: &mut [u8]) -> usize
+    requires { ⌜ at + length (now word) + Putting.numberRoom + 1 ≤ length (now text) ⌝ }
+    ensures { λ r. ⌜ Put (Text.numbered (now (word .entry)) n) at (now (text .entry)) (now (text .exit)) r ⌝ }
+    ensures room { λ r. ⌜ r ≤ at + length (now (word .entry)) + Putting.numberRoom + 1 ⌝ }
+{
+    let end = put_word(word, at, text);
+    let end = put_number(n, end, text);
+    put_word(b"\n", end, text)
+}
+
+fn put_direction(horizontal: bool, at: usize, text: &mut [u8]) -> usize
+    requires { ⌜ at + 2 ≤ length (now text) ⌝ }
+    ensures { λ r. ⌜ Put (Text.directionWord horizontal) at (now (text .entry)) (now (text .exit)) r ⌝ }
+    ensures room { λ r. ⌜ r ≤ at + 2 ⌝ }
+{
+    if horizontal {
+        put_word(b"h ", at, text)
+    } else {
+        put_word(b"v ", at, text)
+    }
+}
+
+fn put_place(inplace: bool, at: usize, text: &mut [u8]) -> usize
+    requires { ⌜ at + 4 ≤ length (now text) ⌝ }
+    ensures { λ r. ⌜ Put (Text.placeWord inplace) at (now (text .entry)) (now (text .exit)) r ⌝ }
+    ensures room { λ r. ⌜ r ≤ at + 4 ⌝ }
+{
+    if inplace {
+        put_word(b"in ", at, text)
+    } else {
+        put_word(b"out ", at, text)
+    }
+}
+
+// Two numbers with a space between them.
+fn put_two(first: usize, second: usize, at: usize, text: &mut [u8]) -> usize
+    requires { ⌜ at + 11 ≤ length (now text) ⌝ }
+    ensures { λ r. ⌜ Put (Text.two first second) at (now (text .entry)) (now (text .exit)) r ⌝ }
+    ensures room { λ r. ⌜ r ≤ at + 11 ⌝ }
+{
+    let end = put_number(first, at, text);
+    let end = put_word(b" ", end, text);
+    put_number(second, end, text)
+}
+
+// "h in 0 1".
+fn put_step(step: Step, at: usize, text: &mut [u8]) -> usize
+    requires { ⌜ at + Putting.stepRoom ≤ length (now text) ⌝ }
+    ensures { λ r. ⌜ Put (Text.stepLine step) at (now (text .entry)) (now (text .exit)) r ⌝ }
+    ensures room { λ r. ⌜ r ≤ at + Putting.stepRoom ⌝ }
+{
+    let end = put_direction(step.horizontal, at, text);
+    let end = put_place(step.inplace, end, text);
+    let end = put_two(step.begin as usize, step.number as usize, end, text);
+    put_word(b"\n", end, text)
+}
+
+// The two shifts, or "m m".
+fn put_shifts(c: Channel, at: usize, text: &mut [u8]) -> usize
+    requires { ⌜ at + 11 ≤ length (now text) ⌝ }
+    ensures { λ r. ⌜ Put (Text.shiftWords c) at (now (text .entry)) (now (text .exit)) r ⌝ }
+    ensures room { λ r. ⌜ r ≤ at + 11 ⌝ }
+{
+    if c.is_meta() {
+        put_word(b"m m", at, text)
+    } else {
+        put_two(c.hshift as usize, c.vshift as usize, at, text)
+    }
+}
+
+// "10 9 1 0".
+fn put_channel(c: Channel, at: usize, text: &mut [u8]) -> usize
+    requires { ⌜ at + Putting.channelRoom ≤ length (now text) ⌝ }
+    ensures { λ r. ⌜ Put (Text.channelLine c) at (now (text .entry)) (now (text .exit)) r ⌝ }
+    ensures room { λ r. ⌜ r ≤ at + Putting.channelRoom ⌝ }
+{
+    let end = put_two(c.width as usize, c.height as usize, at, text);
+    let end = put_word(b" ", end, text);
+    let end = put_shifts(c, end, text);
+    put_word(b"\n", end, text)
+}
+
+fn put_steps(steps: Steps, at: usize, text: &mut [u8]) -> usize
+    requires { ⌜ (steps .count ≤ maxSteps) × (at + Putting.stepRoom * steps .count ≤ length (now text)) ⌝ }
+    ensures { λ r. ⌜ Put (Text.stepLines (StepsSpec.steps steps)) at (now (text .entry)) (now (text .exit)) r ⌝ }
+    ensures room { λ r. ⌜ r ≤ at + Putting.stepRoom * steps .count ⌝ }
+{
+    let count = steps.count;
+    let mut end = at;
+    for k in 0..count {
+        end = put_step(steps.step(k), end, text);
+    }
+    end
+}
+
+fn put_channels(list: ChannelList, at: usize, text: &mut [u8]) -> usize
+    requires { ⌜ (list .count ≤ maxChannels) × (at + Putting.channelRoom * list .count ≤ length (now text)) ⌝ }
+    ensures { λ r. ⌜ Put (Text.channelLines (channels list)) at (now (text .entry)) (now (text .exit)) r ⌝ }
+    ensures room { λ r. ⌜ r ≤ at + Putting.channelRoom * list .count ⌝ }
+{
+    let count = list.count;
+    let mut end = at;
+    for k in 0..count {
+        end = put_channel(list.channel(k), end, text);
+    }
+    end
+}
+
+// The lines of a plan's steps and of the list that it leaves.
+fn put_plan(steps: Steps, list: ChannelList, text: &mut [u8]) -> usize
+    requires { ⌜ (steps .count ≤ maxSteps) × (list .count ≤ maxChannels) × (Putting.listingRoom ≤ length (now text)) ⌝ }
+    ensures { λ r. ⌜ Put (Spec.planText (StepsSpec.steps steps) (channels list)) 0 (now (text .entry)) (now (text .exit)) r ⌝ }
+{
+    let end = put_numbered(b"steps ", steps.count, 0, text);
+    let end = put_steps(steps, end, text);
+    let end = put_numbered(b"channels ", list.count, end, text);
+    let end = put_channels(list, end, text);
+    put_numbered(b"coarse ", plan::coarse_count(list), end, text)
+}
+
+// The steps of an accepted plan, the default plan by its steps.
+fn meant_steps(list: ChannelList, steps: Steps) -> Steps
+    requires { ⌜ judgePlan list steps ≡ 0 ⌝ }
+    ensures { λ r. ⌜ (StepsSpec.steps r ≡ meant (StepsSpec.steps steps) (channels list)) × (r .count ≤ maxSteps) ⌝ }
+{
+    if steps.count != 0 {
+        return steps;
+    }
+    plan::default_squeeze(list).steps
+}
+
+fn put_listing(bytes: &[u8], text: &mut [u8]) -> usize
+    requires { ⌜ Putting.listingRoom ≤ length (now text) ⌝ }
+    ensures { λ r. ⌜ Put (Spec.listing (now (bytes .entry))) 0 (now (text .entry)) (now (text .exit)) r ⌝ }
+{
+    let read = record::read_record(bytes);
+    if read.answer != 0 {
+        return put_numbered(b"refused ", read.answer as usize, 0, text);
+    }
+    let reached = plan::rewrite(read.list, read.steps).list;
+    put_plan(meant_steps(read.list, read.steps), reached, text)
+}
+
+// The listing of the record over the front of `text`; the rest of it stays. A
+// text of `LISTING_ROOM` bytes has room for every listing.
+pub fn list_record(bytes: &[u8], text: &mut [u8]) -> Listed
+    ensures { λ r. ⌜ (r ≡ Spec.listed (now (bytes .entry)) (now (text .entry))) × (now (text .exit) ≡ Spec.textAfter (now (bytes .entry)) (now (text .entry))) ⌝ }
+    ensures room { λ r. ⌜ (r .length ≤ length (now (text .entry))) × (Putting.listingRoom ≤ length (now (text .entry)) → r .answer ≡ 0) ⌝ }
+{
+    let mut page = [0u8; LISTING_ROOM];
+    let length = put_listing(bytes, &mut page);
+    if text.len() < length {
+        return Listed {
+            answer: REFUSED_SLICE,
+            length: 0,
+        };
+    }
+    put_word(&page[..length], 0, text);
+    Listed { answer: 0, length }
+}
