@@ -11,3 +11,4 @@ pub mod Runs
 pub mod Reached
 pub mod Answers
 pub mod Rows
+pub mod AsStandard

@@ -3,3 +3,4 @@ pub mod Default
 pub mod Plans
 pub mod Table
 pub mod Adding
+pub mod Standard
