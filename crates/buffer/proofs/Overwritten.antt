@@ -1,12 +1,12 @@
 -- A slice whose front is overwritten from a list, sample by sample, and the two results that are made so. Assumes nothing.
-use mathlib.Core.Path.{_≡_, refl, sym, ap, _∙_}
-use mathlib.Core.List.{List, [], _∷_, _++_, append-nil}
-use Prim.Native.Nat.{ℕ, suc, _+_, _<_, _≤_, min}
+use mathlib.Core.Path.{_≡_, sym, ap, _∙_}
+use mathlib.Core.List.{List, _++_, append-nil}
+use Prim.Native.Nat.{ℕ, suc, _+_, _<_, _≤_}
 use native.Mathlib.Omega.{arith}
 use native.Mathlib.Numerals.{add-one}
 use lib.IntN.{ℤ, pos}
-use lib.ListN.{length, getD, set, take, drop, replicate, length-append, length-take, length-drop, length-replicate, getD-replicate}
-use lib.Seq.{take-suc, drop-cons, set-at, append-snoc, take-at, take-all, length-take-le, drop-length}
+use lib.ListN.{length, getD, set, take, drop, length-append, length-take, length-drop, length-replicate, getD-replicate}
+use lib.Seq.{take-suc, drop-cons, set-at, append-snoc, take-all, length-take-le, drop-length}
 use Rattle.buffer.specs.Buffer.{both, copied, zeros}
 
 -- the first k samples of xs, and from there on the slice as it was

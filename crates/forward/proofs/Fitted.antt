@@ -1,9 +1,8 @@
 -- What the test of the slices (`slicesFit` of specs/Into.antt) says, and the output slice of either answer. Assumes nothing.
-use mathlib.Core.Path.{_≡_, refl, sym, ap, _∙_}
-use mathlib.Core.Bool.{Bool, true, false, cond, _&&_, not}
+use mathlib.Core.Path.{_≡_, sym, _∙_}
+use mathlib.Core.Bool.{Bool, true, false, _&&_, and-eq-true-iff}
 use mathlib.Core.List.{List}
-use Prim.Native.Nat.{ℕ, _+_, _*_, _<_, _≤_}
-use native.Mathlib.Omega.{arith}
+use Prim.Native.Nat.{ℕ, _*_, _≤_}
 use borrow.Author.Tests.{eqb-true, eq-eqb, le-leb}
 use lib.Dec.{eqb, leb}
 use lib.IntN.{ℤ}
@@ -14,18 +13,6 @@ use Rattle.line.specs.Forward.{averageCount, residualCount}
 use Rattle.forward.specs.Rows.{wide, high, averageEntry, residualEntry}
 use Rattle.forward.specs.Into.{maxSide, slicesFit, averagesInto, residualsInto}
 use Rattle.forward.proofs.Filled.{area}
-
-and-true : (a b : Bool) → a && b ≡ true → (a ≡ true) × (b ≡ true)
-and-true true b e = (refl, e)
-and-true false b e = let z : _≡_ {A = ℕ} 0 1 = cc in absurd (omega arith)
-
-pub not-false : (b : Bool) → not b ≡ false → b ≡ true
-not-false true e = refl
-not-false false e = sym e
-
-pub not-true : (b : Bool) → not b ≡ true → b ≡ false
-not-true true e = sym e
-not-true false e = refl
 
 -- slices that fit, and the rows of the output
 pub record Sized (d : Bool) (lines size m : ℕ) (xs out : List ℤ) (h w : ℕ) : Type 0 where
@@ -38,8 +25,8 @@ module _ (d : Bool) (lines size m : ℕ) (xs out : List ℤ) where
   pub sized : (h w : ℕ) → slicesFit lines size m xs out ≡ true → h ≡ high d lines m → w ≡ wide d lines m → Sized d lines size m xs out h w
   unfolding slicesFit
   sized h w e p q =
-      let l = and-true (leb lines maxSide && leb size maxSide) (eqb (length xs) (lines * size) && eqb (length out) (lines * m)) e .1 in
-      let b = and-true (eqb (length xs) (lines * size)) (eqb (length out) (lines * m)) l in
+      let l = and-eq-true-iff (leb lines maxSide && leb size maxSide) (eqb (length xs) (lines * size) && eqb (length out) (lines * m)) .0 e .1 in
+      let b = and-eq-true-iff (eqb (length xs) (lines * size)) (eqb (length out) (lines * m)) .0 l in
       record {
         samples = eqb-true (length xs) (lines * size) (b .0);
         rows = p;

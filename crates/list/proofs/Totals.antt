@@ -46,15 +46,15 @@ unfolding samples
 sided-samples true c = sym (add-mul (halved (c .width)) (Lists.rest (c .width)) (c .height)) ∙ ap (λ (n : ℕ). n * c .height) (halves-whole (c .width))
 sided-samples false c = sym (mul-add (c .width) (halved (c .height)) (Lists.rest (c .height))) ∙ ap (λ (n : ℕ). c .width * n) (halves-whole (c .height))
 
-parts-samples : (h : Bool) (c : Channel) → samples (average h c) + samples (residual h c) ≡ samples c
+pub parts-samples : (h : Bool) (c : Channel) → samples (average h c) + samples (residual h c) ≡ samples c
 unfolding average residual
 parts-samples h c = rw (raised-samples h (sided halved h c), raised-samples h (sided Lists.rest h c)) (sided-samples h c)
 
-parts-total : (h : Bool) (cs : List Channel) → total (map (average h) cs) + total (map (residual h) cs) ≡ total cs
+pub parts-total : (h : Bool) (cs : List Channel) → total (map (average h) cs) + total (map (residual h) cs) ≡ total cs
 parts-total h [] = refl
 parts-total h (c ∷ cs) = omega (arith, parts-samples h c, parts-total h cs)
 
-total-append : (cs ds : List Channel) → total (cs ++ ds) ≡ total cs + total ds
+pub total-append : (cs ds : List Channel) → total (cs ++ ds) ≡ total cs + total ds
 total-append [] ds = omega arith
 total-append (c ∷ cs) ds = omega (arith, total-append cs ds)
 

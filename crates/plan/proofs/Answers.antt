@@ -46,16 +46,16 @@ module _ (l : ChannelList) (a : ℕ) (ea : a ≡ judgeList l) where
     planned-some h es = rw (← ea, eq-eqb a 0 ok, long, ← em, lt-ltb m (l .count) h, es)
 
 -- ---- a plan: a is the answer to questions 3 to 5
-no-steps : (ss : List Step) → length ss ≡ 0 → ss ≡ []
+pub no-steps : (ss : List Step) → length ss ≡ 0 → ss ≡ []
 no-steps [] h = refl
 no-steps (x ∷ ss) h = absurd (omega arith)
 
-steps-meant : (ss : List Step) (cs : List Channel) → (length ss ≡ 0 → ⊥) → (meantAllowed ss cs ≡ true) × (meant ss cs ≡ ss)
+pub steps-meant : (ss : List Step) (cs : List Channel) → (length ss ≡ 0 → ⊥) → (meantAllowed ss cs ≡ true) × (meant ss cs ≡ ss)
 unfolding meantAllowed meant
 steps-meant [] cs h = absurd (h refl)
 steps-meant (x ∷ ss) cs h = (refl, refl)
 
-steps-length : (s : Steps) → length (S.steps s) ≡ min (s .count) maxSteps
+pub steps-length : (s : Steps) → length (S.steps s) ≡ min (s .count) maxSteps
 unfolding S.steps
 steps-length s = table-length (S.stepAt s) 0 _
 
@@ -86,7 +86,7 @@ module _ (l : ChannelList) (s : Steps) (a : ℕ) (ea : a ≡ judgeForm l s) wher
       empty = no-steps (S.steps s) (omega (arith, steps-length s))
 
       -- the default plan by the answer to question 6
-      offered : (b : Bool) → hasOther (channels l) ≡ b
+      pub offered : (b : Bool) → hasOther (channels l) ≡ b
           → p ≡ cond b (record { answer = 0; steps = S.packed (defaultSteps stoppingSide (channels l)) }) (record { answer = 11; steps = S.packed [] })
       unfolding planned judgeDefault
       offered true e = ep ∙ rw (form-accepted .0, e)
@@ -113,7 +113,7 @@ module _ (l : ChannelList) (s : Steps) (a : ℕ) (ea : a ≡ judgeForm l s) wher
           go false e = absurd (eqb-false 11 0 refl (sym (ap (λ (x : Planned). x .answer) (offered false e)) ∙ h))
 
 -- ---- an accepted plan leaves an accepted list
-outcome-answer : (a : ℕ) (l : ChannelList) (cs : List Channel) → outcome a l cs .answer ≡ a
+pub outcome-answer : (a : ℕ) (l : ChannelList) (cs : List Channel) → outcome a l cs .answer ≡ a
 unfolding outcome
 outcome-answer a l cs = go (eqb a 0) refl
   where

@@ -25,7 +25,7 @@ use Rattle.runs.specs.Runs.{linesOf, sizeOf, channelBack, channelAverage
 use Rattle.runs.proofs.Shapes.{Shaped, AllSamples}
 
 -- ---- sizes: a channel has its lines times its samples along them, and so do its average and its residual
-samples-by : (h : Bool) (c : Channel) → samples c ≡ linesOf h c * sizeOf h c
+pub samples-by : (h : Bool) (c : Channel) → samples c ≡ linesOf h c * sizeOf h c
 unfolding Channel.samples
 samples-by true c = mul-comm (c .width) (c .height)
 samples-by false c = refl
@@ -52,7 +52,7 @@ unfolding Lists.residual
 residual-samples h c = raised-samples h (sided rest h c) ∙ sided-samples rest h c
 
 -- ---- one channel
-all-along : (n : ℕ) → averageCount n + residualCount n ≡ n
+pub all-along : (n : ℕ) → averageCount n + residualCount n ≡ n
 all-along n = omega arith
 
 pub back-length : (h : Bool) (c : Channel) (avg res : List ℤ) → length (channelBack h c avg res) ≡ samples c

@@ -63,7 +63,7 @@ module _ (s : Step) (cs : List Channel) (inside : s .begin + s .number ≤ lengt
         by true = drop-at pr pz (s .number) lr
         by false = take-at pz pr (behind s cs) lz
 
-    back-of : length pr ≡ s .number → length pz ≡ behind s cs
+    pub back-of : length pr ≡ s .number → length pz ≡ behind s cs
         → backParts s cs (pb ++ (pa ++ arranged (s .inplace) pr pz)) ≡ pb ++ (allBack (s .horizontal) (range s cs) pa pr ++ pz)
     unfolding backParts
     back-of lr lz =

@@ -1,9 +1,8 @@
 -- `clear` meets its contract: after i turns the front is overwritten by i zeros (proofs/Overwritten.antt). Assumes nothing.
-use mathlib.Core.Path.{_≡_, refl, sym, _∙_}
+use mathlib.Core.Path.{_≡_, refl, _∙_}
 use Prim.Native.Nat.{_-_, _≤_}
 use native.Mathlib.Omega.{arith}
 use borrow.Author.Needs.{needs}
-use lib.IntN.{pos}
 use lib.ListN.{length, length-set}
 use Rattle.buffer.specs.Buffer.{zeros}
 use Rattle.buffer.proofs.Overwritten.{overwritten, overwritten-more, overwritten-zeros, zeros-length, zeros-at}

@@ -1,11 +1,10 @@
 -- `copy` meets its contract: after i turns the front of `to` is overwritten by the first i samples (proofs/Overwritten.antt). Assumes nothing.
-use mathlib.Core.Path.{_≡_, refl, sym, _∙_}
+use mathlib.Core.Path.{_≡_, refl, _∙_}
 use Prim.Native.Nat.{_-_, _≤_}
 use native.Mathlib.Omega.{arith}
 use borrow.Author.Needs.{needs}
 use mir.Facts.{toZ-ofZ}
-use lib.IntN.{pos}
-use lib.ListN.{length, getD, length-set}
+use lib.ListN.{length, length-set}
 use Rattle.buffer.specs.Buffer.{both}
 use Rattle.buffer.proofs.Overwritten.{overwritten, overwritten-more, overwritten-copied}
 use Rattle.buffer.proofs.copy.Statement.{statement}

@@ -1,6 +1,5 @@
 -- `average_at` meets its contract: the last sample alone, or the average of a pair. Assumes nothing.
 use mathlib.Core.Path.{_∙_, sym}
-use Prim.Native.Nat.{_+_}
 use native.Mathlib.Omega.{arith}
 use borrow.Author.Needs.{needs}
 use Rattle.line.specs.Forward.{lineIn}

@@ -4,12 +4,13 @@ use mathlib.Core.Bool.{true}
 use Prim.Native.Nat.{_+_, _-_, _*_, _/_, _<_, _≤_}
 use native.Mathlib.Omega.{arith}
 use borrow.Author.Needs.{needs}
+use borrow.Author.Tests.{not-true, not-false}
 use lib.ListN.{length}
 use Rattle.line.specs.Forward.{averageCount}
 use Rattle.forward.specs.Rows.{averageEntry}
 use Rattle.forward.specs.Into.{slicesFit}
 use Rattle.forward.proofs.Filled.{Down, down-none, down-more, down-all, row-room, part-length}
-use Rattle.forward.proofs.Fitted.{Sized, sized, not-false, not-true, averages-kept, averages-put}
+use Rattle.forward.proofs.Fitted.{Sized, sized, averages-kept, averages-put}
 use Rattle.forward.proofs.average_lines.Statement.{statement}
 use Rattle.forward.proofs.average_lines.Tie as tie
 

@@ -1,9 +1,8 @@
 -- `average_row` meets its contract. The loop's invariant: the entries up to x are those of row y (`Row` of proofs/Filled.antt). Assumes nothing.
 use mathlib.Core.Path.{_≡_, sym, _∙_}
-use Prim.Native.Nat.{_+_, _-_, _*_, _<_, _≤_}
+use Prim.Native.Nat.{_-_, _*_, _<_}
 use native.Mathlib.Omega.{arith}
 use borrow.Author.Needs.{needs}
-use lib.ListN.{length}
 use Rattle.line.specs.Forward.{averageCount}
 use Rattle.arith32.proofs.Whole.{back32}
 use Rattle.forward.specs.Rows.{wide, averageEntry}

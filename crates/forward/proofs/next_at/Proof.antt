@@ -1,6 +1,5 @@
 -- `next_at` meets its contract: the next pair's average or tail where there is one, else the own. Assumes nothing.
 use mathlib.Core.Path.{_∙_, sym}
-use Prim.Native.Nat.{_+_}
 use native.Mathlib.Omega.{arith}
 use borrow.Author.Needs.{needs}
 use mir.Facts.{toZ-ofZ}

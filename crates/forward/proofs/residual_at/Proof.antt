@@ -1,7 +1,5 @@
 -- `residual_at` meets its contract: the pair's average is the own one (`average-pair`), and the residual is that of its difference. Assumes nothing.
 use mathlib.Core.Path.{_≡_, _∙_, sym}
-use Prim.Native.Nat.{_+_}
-use native.Mathlib.Omega.{arith}
 use borrow.Author.Needs.{needs}
 use mir.Val.{toZ, ofZ}
 use mir.Syntax.{w32}

@@ -4,12 +4,13 @@ use mathlib.Core.Bool.{true}
 use Prim.Native.Nat.{_+_, _-_, _*_, _/_, _<_, _≤_}
 use native.Mathlib.Omega.{arith}
 use borrow.Author.Needs.{needs}
+use borrow.Author.Tests.{not-true, not-false}
 use lib.ListN.{length}
 use Rattle.line.specs.Forward.{residualCount}
 use Rattle.forward.specs.Rows.{residualEntry}
 use Rattle.forward.specs.Into.{slicesFit}
 use Rattle.forward.proofs.Filled.{Down, down-none, down-more, down-all, row-room, part-length}
-use Rattle.forward.proofs.Fitted.{Sized, sized, not-false, not-true, residuals-kept, residuals-put}
+use Rattle.forward.proofs.Fitted.{Sized, sized, residuals-kept, residuals-put}
 use Rattle.forward.proofs.residual_lines.Statement.{statement}
 use Rattle.forward.proofs.residual_lines.Tie as tie
 

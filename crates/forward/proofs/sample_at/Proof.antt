@@ -1,5 +1,4 @@
 -- `sample_at` meets its contract: the place lies inside the slice (`place-room` of crate line). Assumes nothing.
-use mathlib.Core.Path.{_∙_}
 use mathlib.Core.Bool.{true, false}
 use Prim.Native.Nat.{_+_, _*_, _<_}
 use native.Mathlib.Omega.{arith}

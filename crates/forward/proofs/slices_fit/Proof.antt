@@ -1,10 +1,8 @@
 -- `slices_fit` meets its contract: not if a side is too long, else the products fit a `usize`. Assumes nothing.
-use mathlib.Core.Path.{refl}
 use Prim.Native.Nat.{_*_, _≤_}
 use native.Mathlib.Omega.{arith}
 use native.Mathlib.Nat.{mul-le-mul}
 use borrow.Author.Tests.{le-leb, lt-leb}
-use lib.ListN.{length}
 use Rattle.forward.specs.Into.{maxSide, slicesFit}
 use Rattle.forward.proofs.slices_fit.Statement.{statement}
 use Rattle.forward.proofs.slices_fit.Tie as tie

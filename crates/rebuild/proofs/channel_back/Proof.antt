@@ -1,0 +1,83 @@
+-- `channel_back` meets its contract: the tile call is accepted and leaves the channel (proofs/OneTile.antt). Assumes nothing.
+use mathlib.Core.Path.{_∙_}
+use native.Mathlib.Omega.{arith}
+use borrow.Author.Needs.{needs}
+use Rattle.rebuild.proofs.OneTile.{size-small, one-tile}
+use Rattle.rebuild.proofs.channel_back.Statement.{statement}
+use Rattle.rebuild.proofs.channel_back.Tie as tie
+
+across-requires : tie.Need-across-requires
+across-requires c κs = search needs
+
+along-requires : tie.Need-along-requires
+along-requires c κs = search needs
+
+add-averages : tie.Need-add-averages
+add-averages c =
+    let q = c .before .before in
+    let small = size-small (q .args .horizontal) (q .args .c) (omega arith) (omega arith) in
+    omega (arith, c .along .ensures)
+
+sides-requires : tie.Need-sides-requires
+sides-requires c κs = search needs
+
+sub-sides : tie.Need-sub-sides
+sub-sides c = search needs
+
+sides-requires-2 : tie.Need-sides-requires-2
+sides-requires-2 c κs = search needs
+
+sub-none : tie.Need-sub-none
+sub-none c = search needs
+
+part-none-start : tie.Need-part-none-start
+part-none-start c = search needs
+
+part-none-end : tie.Need-part-none-end
+part-none-end c = search needs
+
+cast-squeeze-tile : tie.Need-cast-squeeze-tile
+cast-squeeze-tile c = search needs
+
+cast-squeeze-tile-2 : tie.Need-cast-squeeze-tile-2
+cast-squeeze-tile-2 c = search needs
+
+cast-squeeze-tile-3 : tie.Need-cast-squeeze-tile-3
+cast-squeeze-tile-3 c = search needs
+
+squeeze-tile-requires : tie.Need-squeeze-tile-requires
+squeeze-tile-requires c κs = search needs
+
+same-length : tie.Need-same-length
+same-length c = search needs
+
+returns : tie.Need-returns
+returns c =
+    let q = c .before .before .before .before .before .before in
+    let start = q .before .before .before .before in
+    let a = start .args in
+    let el = q .before .before .before .across .ensures in
+    let es = q .before .before .along .ensures in
+    c .before .squeeze-tile .ensures .1
+    ∙ one-tile (a .horizontal) (a .c) (omega arith) (omega arith) (a .avg .now) (a .res .now) (a .out .now) (start .pre) (q .before .sides .result) (q .sides2 .result)
+    (q .before .sides .ensures ∙ rw (el, es)) (q .sides2 .ensures ∙ rw (el, es))
+
+pub channel-back-spec : {M : Type 1} → statement M
+channel-back-spec =
+    tie.close
+    (tie.spec
+    across-requires
+    along-requires
+    add-averages
+    sides-requires
+    sub-sides
+    sides-requires-2
+    sub-none
+    part-none-start
+    part-none-end
+    cast-squeeze-tile
+    cast-squeeze-tile-2
+    cast-squeeze-tile-3
+    squeeze-tile-requires
+    same-length
+    returns)

@@ -1,0 +1,92 @@
+-- `rebuild` meets its contract: each return has the answers to the questions before it, and the last has the run (proofs/Outcome.antt). Assumes nothing.
+use mathlib.Core.Path.{sym, _∙_}
+use borrow.Author.Needs.{needs}
+use borrow.Author.Tests.{not-true, not-false}
+use Rattle.rebuild.proofs.Outcome.{rewritten-answer, run-fits, ends-refused, ends-misfit, lengths, ends-done}
+use Rattle.rebuild.proofs.rebuild.Statement.{statement}
+use Rattle.rebuild.proofs.rebuild.Tie as tie
+
+rewrite-requires : tie.Need-rewrite-requires
+rewrite-requires c κs = search needs
+
+returns : tie.Need-returns
+returns c =
+    let w = c .before .rewrite in
+    let a = c .before .before .args in
+    ends-refused (a .list) (a .steps) (a .pyramid .now) (a .picture .now) (a .work .now) (w .result .answer) (rewritten-answer (a .list) (a .steps) (w .result) (w .ensures))
+    (c .if1 .taken)
+
+total-requires : tie.Need-total-requires
+total-requires c κs = search needs
+
+returns-2 : tie.Need-returns-2
+returns-2 c =
+    let m = c .before in
+    let w = m .before .before .rewrite in
+    let a = m .before .before .before .args in
+    let ea = rewritten-answer (a .list) (a .steps) (w .result) (w .ensures) in
+    let ok = m .before .if1 .left in
+    ends-misfit (a .list) (a .steps) (a .pyramid .now) (a .picture .now) (a .work .now) (w .result .answer) ea ok (m .total .result) (m .total .ensures) (not-true _ (c .if2 .taken))
+
+copy-requires : tie.Need-copy-requires
+copy-requires c κs = search needs
+
+meant-requires : tie.Need-meant-requires
+meant-requires c κs =
+    let m = c .before .before .before .before in
+    let w = m .before .before .rewrite in
+    let a = m .before .before .before .args in
+    let ea = rewritten-answer (a .list) (a .steps) (w .result) (w .ensures) in
+    let ok = m .before .if1 .left in
+    sym ea ∙ ok
+
+rebuild-from-requires : tie.Need-rebuild-from-requires
+rebuild-from-requires c κs =
+    let m = c .before .before .before .before .before .before .before in
+    let w = m .before .before .rewrite in
+    let a = m .before .before .before .args in
+    let ea = rewritten-answer (a .list) (a .steps) (w .result) (w .ensures) in
+    let ok = m .before .if1 .left in
+    let n =
+    lengths (a .list) (a .steps) (a .pyramid .now) (a .picture .now) (a .work .now) (w .result .answer) ea ok (m .total .result) (m .total .ensures)
+    (not-false _ (c .before .before .before .before .before .before .if2 .left))
+    in
+    run-fits (a .list) (a .steps) (sym ea ∙ ok) (c .before .before .meant .result) (c .before .before .meant .ensures .0) (c .before .before .meant .ensures .1) _ _
+    (c .before .before .before .before .copy .kept .1 .0 ∙ n .1) (n .2)
+
+clear-requires : tie.Need-clear-requires
+clear-requires c κs = search needs
+
+same-length : tie.Need-same-length
+same-length c = search needs
+
+same-length-2 : tie.Need-same-length-2
+same-length-2 c = search needs
+
+returns-3 : tie.Need-returns-3
+returns-3 c =
+    let m = c .before .before .before .before .before .before .before .before .before .before .before .before .before in
+    let w = m .before .before .rewrite in
+    let a = m .before .before .before .args in
+    let ea = rewritten-answer (a .list) (a .steps) (w .result) (w .ensures) in
+    let ok = m .before .if1 .left in
+    ends-done (a .list) (a .steps) (a .pyramid .now) (a .picture .now) (a .work .now) (w .result .answer) ea ok (m .total .result) (m .total .ensures)
+    (not-false _ (c .before .before .before .before .before .before .before .before .before .before .before .before .if2 .left)) (c .before .before .before .before .before .before .before .before .meant .result) (c .before .before .before .before .before .before .before .before .meant .ensures .0) (c .before .before .before .before .before .before .before .before .meant .ensures .1)
+    (c .before .before .before .before .before .before .before .before .before .before .copy .last .1 .0) (c .before .before .before .before .before .rebuild-from .last .1 .1 .1 .0) (c .before .before .before .before .before .rebuild-from .last .1 .1 .1 .1 .0) (c .before .clear .last .0)
+    (c .before .before .before .before .before .before .before .before .before .before .copy .ensures) (c .before .before .before .before .before .rebuild-from .ensures) (c .before .before .before .before .before .rebuild-from .kept .1 .1 .1 .1 .0) (c .before .clear .ensures)
+
+pub rebuild-spec : {M : Type 1} → statement M
+rebuild-spec =
+    tie.close
+    (tie.spec
+    rewrite-requires
+    returns
+    total-requires
+    returns-2
+    copy-requires
+    meant-requires
+    rebuild-from-requires
+    clear-requires
+    same-length
+    same-length-2
+    returns-3)

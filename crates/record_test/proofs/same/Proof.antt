@@ -1,0 +1,52 @@
+-- `same` is safe and ends: one turn for each byte of two slices of one length. Assumes nothing.
+use mathlib.Core.Path.{_≡_}
+use Prim.Native.Nat.{_-_, _≤_}
+use borrow.Author.Needs.{needs}
+use lib.ListN.{length}
+use Rattle.record_test.proofs.same.Statement.{statement}
+use Rattle.record_test.proofs.same.Tie as tie
+
+abbrev Inv-loop : tie.InvT-loop
+Inv-loop a b right₀ i₀ i-end right i = (i ≤ i-end) × (i-end ≡ length a) × (length a ≡ length b)
+
+abbrev μ-loop : tie.MeasureT-loop
+μ-loop a b right₀ i₀ i-end right i = i-end - i
+
+returns : tie.Need-returns Inv-loop μ-loop
+returns c = search needs
+
+loop-holds : tie.Need-loop-holds Inv-loop μ-loop
+loop-holds c = search needs
+
+shared-slice-read-right : tie.Need-shared-slice-read-right Inv-loop μ-loop
+shared-slice-read-right c = search needs
+
+shared-slice-read-right-2 : tie.Need-shared-slice-read-right-2 Inv-loop μ-loop
+shared-slice-read-right-2 c = search needs
+
+add-i : tie.Need-add-i Inv-loop μ-loop
+add-i c = search needs
+
+loop-less : tie.Need-loop-less Inv-loop μ-loop
+loop-less c = search needs
+
+loop-again : tie.Need-loop-again Inv-loop μ-loop
+loop-again c = search needs
+
+returns-2 : tie.Need-returns-2 Inv-loop μ-loop
+returns-2 c = search needs
+
+pub same-spec : {M : Type 1} → statement M
+same-spec =
+    tie.close
+    (tie.spec
+    Inv-loop
+    μ-loop
+    returns
+    loop-holds
+    shared-slice-read-right
+    shared-slice-read-right-2
+    add-i
+    loop-less
+    loop-again
+    returns-2)
