@@ -1,0 +1,7 @@
+pub mod Sums
+pub mod Along
+pub mod Flat
+pub mod Ranges
+pub mod Running
+pub mod Plans
+pub mod Answered

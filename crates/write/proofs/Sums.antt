@@ -1,0 +1,86 @@
+-- Sums of samples: of the first channels of a list held in arrays, of the parts before, in and behind a step's range, and of the two halves of
+-- channels, which are the whole. Assumes nothing.
+use mathlib.Core.Path.{_≡_, refl, sym, ap, _∙_}
+use mathlib.Core.Bool.{Bool, true, false}
+use mathlib.Core.List.{List, [], _∷_, _++_}
+use Prim.Native.Nat.{ℕ, zero, suc, _+_, _*_, _≤_, min}
+use native.Mathlib.Omega.{arith}
+use native.Mathlib.Nat.{mul-comm, mul-add, mul-le-mul}
+use lib.IntN.{ℤ}
+use lib.ListN.{length, take}
+use lib.Seq.{take-add}
+use Rattle.channel.specs.declared.Channel.{Channel}
+use Rattle.channel.specs.Channel as Channel
+use Rattle.channel.specs.Channel.{samples}
+use Rattle.list.specs.declared.ChannelList.{ChannelList}
+use Rattle.list.specs.declared.Step.{Step}
+use Rattle.list.specs.Tables.{table, map}
+use Rattle.list.specs.Lists as Lists
+use Rattle.list.specs.Lists.{maxChannels, channelAt, channels, before, range, after, total}
+use Rattle.list.proofs.Tables.{table-part}
+use Rattle.list.proofs.Channels.{channels-length}
+use Rattle.list.proofs.Parts.{parts-whole}
+use Rattle.line.specs.Forward.{averageCount, residualCount}
+use Rattle.forward.specs.Into.{maxSide}
+use Rattle.runs.specs.Runs.{linesOf, sizeOf}
+use Rattle.runs.proofs.OneChannel.{average-samples, residual-samples, averages-length, residuals-length}
+use Rattle.write.specs.Halves.{half, halfOf}
+
+-- ---- the first channels of a list
+pub channels-front : (l front : ChannelList) (k : ℕ) → k ≤ length (channels l) → front .count ≡ k
+    → ((j : ℕ) → channelAt front j ≡ channelAt l j) → channels front ≡ take k (channels l)
+unfolding Lists.channels
+channels-front l front k h e same =
+    let n = channels-length l in
+    let m : min (front .count) maxChannels ≡ k = omega arith in
+    rw m (table-same 0 k ∙ sym (table-part (channelAt l) 0 (min (l .count) maxChannels) 0 k (omega arith)))
+  where
+    table-same : (j n : ℕ) → table (channelAt front) j n ≡ table (channelAt l) j n
+    table-same j zero = refl
+    table-same j (suc n) = rw (same j, table-same (suc j) n)
+
+pub total-append : (cs ds : List Channel) → total (cs ++ ds) ≡ total cs + total ds
+total-append [] ds = omega arith
+total-append (c ∷ cs) ds = omega (arith, total-append cs ds)
+
+-- up to a step's range and up to its end, and the whole
+pub range-end : (s : Step) (cs : List Channel) → total (take (s .begin + s .number) cs) ≡ total (before s cs) + total (range s cs)
+range-end s cs = rw (take-add (s .begin) (s .number) cs) (total-append (before s cs) (range s cs))
+
+pub range-rest : (s : Step) (cs : List Channel) → total cs ≡ total (before s cs) + (total (range s cs) + total (after s cs))
+range-rest s cs =
+    ap total (sym (parts-whole s cs)) ∙ total-append (before s cs) (range s cs ++ after s cs)
+    ∙ omega (arith, total-append (range s cs) (after s cs))
+
+-- ---- halves
+pub samples-by : (h : Bool) (c : Channel) → samples c ≡ linesOf h c * sizeOf h c
+unfolding Channel.samples
+samples-by true c = mul-comm (c .width) (c .height)
+samples-by false c = refl
+
+pub half-residual : (h : Bool) (c : Channel) → samples (half true h c) ≡ linesOf h c * residualCount (sizeOf h c)
+unfolding half
+half-residual h c = residual-samples h c
+
+pub half-average : (h : Bool) (c : Channel) → samples (half false h c) ≡ linesOf h c * averageCount (sizeOf h c)
+unfolding half
+half-average h c = average-samples h c
+
+pub half-length : (r h : Bool) (c : Channel) (xs : List ℤ) → length (halfOf r h c xs) ≡ samples (half r h c)
+unfolding half halfOf
+half-length true h c xs = residuals-length h c xs
+half-length false h c xs = averages-length h c xs
+
+-- both together
+halves-whole : (h : Bool) (c : Channel) → samples (half false h c) + samples (half true h c) ≡ samples c
+halves-whole h c =
+    let e : averageCount (sizeOf h c) + residualCount (sizeOf h c) ≡ sizeOf h c = omega arith in
+    rw (half-average h c, half-residual h c, ← mul-add (linesOf h c) (averageCount (sizeOf h c)) (residualCount (sizeOf h c)), e) (sym (samples-by h c))
+
+pub halves-total : (h : Bool) (cs : List Channel) → total (map (half false h) cs) + total (map (half true h) cs) ≡ total cs
+halves-total h [] = refl
+halves-total h (c ∷ cs) = omega (arith, halves-whole h c, halves-total h cs)
+
+-- a product of sides is small
+pub small : (lines n : ℕ) → lines ≤ maxSide → n ≤ maxSide → lines * n ≤ maxSide * maxSide
+small lines n p q = mul-le-mul p q

@@ -1,0 +1,61 @@
+/* Squeeze of JPEG XL's Modular mode: the functions that the archives export.
+
+   A slice is a pointer and a number of elements. Slices of one call must not
+   overlap, and a pointer must be aligned and not null, for an empty slice too.
+   Every function answers 0, or the number of a refusal; a refused call changes
+   nothing. No other condition is asked of any argument.
+
+   Refusals:  1 a field's head or length runs past the record
+              2 unknown tag, wrong length, or a channel after a step
+              3 no channel, over 256 channels or over 64 steps
+              4 shifts, meta channels not first, or unknown flag bits
+              5 over 16,777,216 samples
+              6 a step's range      7 its kinds     8 meta and not in place
+              9 an empty side      10 too many channels, or a shift above 30
+             11 a default plan without a channel that is not meta
+             12 a slice of another length
+             13 sizes or lines of a tile call that don't fit */
+#ifndef SQUEEZE_H
+#define SQUEEZE_H
+
+#include <stddef.h>
+#include <stdint.h>
+
+#ifdef __cplusplus
+extern "C" {
+#endif
+
+/* Rebuilds the picture of a pyramid. record: the bytes that describe the
+   channels and the plan. pyramid: one sample after the other, channel by
+   channel of the rewritten list; read only. picture: the same number of
+   samples; written. work: as long as the picture, any contents; all zero after
+   success. In libsqueeze.a. */
+uint32_t squeeze_rebuild(const uint8_t *record, size_t record_len,
+                         const int32_t *pyramid, size_t pyramid_len,
+                         int32_t *picture, size_t picture_len,
+                         int32_t *work, size_t work_len);
+
+/* Writes the pyramid of a picture: the reverse. In libsqueeze.a. */
+uint32_t squeeze_write(const uint8_t *record, size_t record_len,
+                       const int32_t *picture, size_t picture_len,
+                       int32_t *pyramid, size_t pyramid_len,
+                       int32_t *work, size_t work_len);
+
+/* One tile of an inverse squeeze, horizontal unless the first number is 0:
+   aw by ah averages, rw by rh residuals, ow by oh samples of output. next: the
+   next tile's first average line, or empty. prev: the last line that the tile
+   before wrote, or empty. In libtile.a. */
+uint32_t squeeze_tile(uint32_t horizontal,
+                      size_t aw, size_t ah, size_t rw, size_t rh,
+                      size_t ow, size_t oh,
+                      const int32_t *avg, size_t avg_len,
+                      const int32_t *res, size_t res_len,
+                      const int32_t *next, size_t next_len,
+                      const int32_t *prev, size_t prev_len,
+                      int32_t *out, size_t out_len);
+
+#ifdef __cplusplus
+}
+#endif
+
+#endif
