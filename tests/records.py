@@ -1,191 +1,278 @@
 #!/usr/bin/env python3
-"""Makes crates/record_test/stdin: records with the listings that document 01 gives them.
+"""Makes crates/record_test/stdin: records, each with the listing that document 01 asks for.
 
 usage: tests/records.py > crates/record_test/stdin
 
-Lists and plans are judged by the rules of tests/lists.py, fields by the rules here; NAMED has the cases that document 01
-names, each with its answer written out, and stops the script where the rules say something else. A case of the stream is
-the lengths of the record and of its listing, two bytes each, least byte first, then the bytes of both.
+The rules are written here from document 01 alone: a record read field by field, questions 1 to 11 in their order, the
+default plan, a step on a list and the coarse count. The record that the document prints is held against its text first.
+
+The stream has for each kind of KINDS the number of its cases and the cases. A case is the number of a record's bytes,
+the record, the number of its text's bytes and the text. A number has four bytes, least byte first. The number of cases
+of each kind goes to standard error.
 """
-import random
 import struct
 import sys
 
-from lists import MAX_CHANNELS, MAX_SHIFT, MAX_STEPS, META, STOPPING_SIDE, held, is_meta, judge_plan, default_steps, plan_of
-
-CHANNEL, STEP = 1, 2
-PROGRAM_READS = 524_288
-
-# ---- fields
-field = lambda tag, body: struct.pack("<BH", tag, len(body)) + body
-channel = lambda w, h, hs=0, vs=0: field(CHANNEL, struct.pack("<HHBB", w, h, hs, vs))
-meta = lambda w, h: channel(w, h, META, META)
-step = lambda flags, first, number: field(STEP, struct.pack("<BHH", flags, first, number))
+KINDS = {kind: [] for kind in ['printed', 'cuts', 'refusals', 'order', 'limits', 'sizes', 'metas', 'plans', 'bytes']}
+MAX_CHANNELS, MAX_STEPS, MAX_SAMPLES, MAX_SHIFT, META, STOP = 256, 64, 16_777_216, 30, 255, 8
 
 
-def read(data):
-    """Questions 1 to 4, field by field: a refusal, or the channels and the steps."""
-    channels, steps, at = [], [], 0
-    while at < len(data):
-        if len(data) - at < 3:
-            return 1, None, None
-        tag, length = struct.unpack_from("<BH", data, at)
-        if len(data) - at - 3 < length:
-            return 1, None, None
-        body = data[at + 3:at + 3 + length]
-        if (tag, length) == (CHANNEL, 6) and not steps:
-            c = struct.unpack("<HHBB", body)
-            if len(channels) == MAX_CHANNELS:
-                return 3, None, None
-            if not is_meta(c) and max(c[2:]) > MAX_SHIFT or is_meta(c) and channels and not is_meta(channels[-1]):
-                return 4, None, None
-            channels.append(c)
-        elif (tag, length) == (STEP, 5):
-            flags, first, number = struct.unpack("<BHH", body)
-            if len(steps) == MAX_STEPS:
-                return 3, None, None
-            if flags > 3:
-                return 4, None, None
-            steps.append((flags % 2, flags // 2, first, number))
-        else:
-            return 2, None, None
-        at += 3 + length
-    return (0, channels, steps) if channels else (3, None, None)
+class Refused(Exception):
+    pass
 
 
-# ---- the listing
-def listing(data):
-    answer, channels, steps = read(data)
+def ask(answer, number):
     if not answer:
-        answer, (_, left) = judge_plan(held(channels), plan_of(steps))
-    if answer:
-        return "refused %d\n" % answer
-    lines = ["steps %d" % len(steps or default_steps(channels))]
-    for horizontal, inplace, first, number in steps or default_steps(channels):
-        lines.append("%s %s %d %d" % ("vh"[horizontal], ("out", "in")[inplace], first, number))
-    lines.append("channels %d" % len(left))
-    for c in left:
-        lines.append("%d %d " % c[:2] + ("m m" if is_meta(c) else "%d %d" % c[2:]))
-    coarse = next((k for k, c in enumerate(left) if max(c[:2]) > STOPPING_SIDE), len(left))
-    return "\n".join(lines + ["coarse %d" % coarse]) + "\n"
+        raise Refused(number)
 
 
-# ---- the cases that document 01 names, and each refusal; where two questions are broken the first one decides
-TEXT = """steps 3
-h in 0 1
-v in 0 1
-h in 0 1
-channels 4
-5 5 2 1
-5 5 2 1
-10 4 1 1
-10 9 1 0
-coarse 2
-"""
-PICTURE = bytes.fromhex("010600140009000000")
-H_IN, V_IN, H_OUT = 3, 2, 1
-refused = "refused %d\n".__mod__
-NAMED = [
-    (PICTURE, TEXT),
-    (b"", refused(3)),
-    (step(H_IN, 0, 1), refused(3)),
-    (channel(8, 8)[:2], refused(1)),
-    (channel(8, 8) + b"\x01", refused(1)),
-    (channel(8, 8) + b"\x01\x06", refused(1)),
-    (channel(8, 8) + b"\x03\x06\x00", refused(1)),
-    (channel(8, 8) + b"\x09\xff\xff", refused(1)),
-    (channel(8, 8) + b"\x03\x00\x00", refused(2)),
-    (channel(8, 8) + b"\x00\x00\x00", refused(2)),
-    (field(CHANNEL, bytes(5)), refused(2)),
-    (field(CHANNEL, bytes(7)), refused(2)),
-    (channel(8, 8) + field(STEP, bytes(6)), refused(2)),
-    (b"\x01\x00\x06" + bytes(6), refused(1)),
-    (channel(8, 8) + step(H_IN, 0, 1) + channel(8, 8), refused(2)),
-    (channel(8, 8) + step(H_IN, 0, 1) + channel(8, 8, 31, 0), refused(2)),
-    (channel(8, 8, 31, 0) + b"\x03\x00\x00", refused(4)),
-    (channel(8, 8, META, 0), refused(4)),
-    (channel(8, 8, 0, META), refused(4)),
-    (channel(8, 8, 31, 0), refused(4)),
-    (channel(8, 8, 0, 31), refused(4)),
-    (channel(8, 8) + meta(8, 8), refused(4)),
-    (channel(8, 8) + step(4, 0, 1), refused(4)),
-    (channel(8, 8) + step(255, 0, 1), refused(4)),
-    (channel(1, 1) * 257, refused(3)),
-    (channel(1, 1) * 256 + channel(1, 1, 31, 0), refused(3)),
-    (channel(1, 1) * 256 + b"\x01\x06\x00", refused(1)),
-    (channel(1, 1) * 256 + field(CHANNEL, bytes(5)), refused(2)),
-    (channel(8, 1) + step(H_IN, 0, 1) * 65, refused(3)),
-    (channel(8, 1) + step(H_IN, 0, 1) * 64 + step(4, 0, 1), refused(3)),
-    (channel(4097, 4096), refused(5)),
-    (channel(4096, 4096) + channel(1, 1) + step(H_IN, 5, 1), refused(5)),
-    (channel(4097, 4096) + step(4, 0, 1), refused(4)),
-    (meta(4097, 4096), refused(5)),
-    (channel(8, 8) + step(H_IN, 0, 0), refused(6)),
-    (channel(8, 8) + step(H_IN, 0, 2), refused(6)),
-    (channel(8, 8) + step(H_IN, 65535, 65535), refused(6)),
-    (meta(8, 8) + channel(8, 8) + step(H_IN, 0, 2), refused(7)),
-    (meta(8, 8) + channel(8, 8) + step(H_OUT, 0, 2), refused(7)),
-    (meta(8, 8) + step(H_OUT, 0, 1), refused(8)),
-    (meta(0, 8) + step(H_OUT, 0, 1), refused(8)),
-    (channel(0, 8) + step(H_IN, 0, 1), refused(9)),
-    (channel(8, 0, 30, 30) + step(H_IN, 0, 1), refused(9)),
-    (channel(8, 8, 30, 0) + step(H_IN, 0, 1), refused(10)),
-    (channel(2, 1) * 129 + step(H_IN, 0, 128), refused(10)),
-    (channel(2, 1) * 128 + step(H_IN, 0, 128) + step(H_IN, 0, 257), refused(6)),
-    (meta(8, 8), refused(11)),
-    (meta(8, 8) + meta(0, 0), refused(11)),
-    (channel(8, 8), "steps 0\nchannels 1\n8 8 0 0\ncoarse 1\n"),
-    (channel(8, 8, 29, 0) + step(H_IN, 0, 1), "steps 1\nh in 0 1\nchannels 2\n4 8 30 0\n4 8 30 0\ncoarse 2\n"),
-    (channel(9, 2) + channel(3, 3) + step(H_OUT, 0, 1), "steps 1\nh out 0 1\nchannels 3\n5 2 1 0\n3 3 0 0\n4 2 1 0\ncoarse 3\n"),
-    (meta(9, 1) + channel(1, 1), "steps 0\nchannels 2\n9 1 m m\n1 1 0 0\ncoarse 0\n"),
-    (meta(3, 1) + channel(9, 1) + step(V_IN, 1, 1), "steps 1\nv in 1 1\nchannels 3\n3 1 m m\n9 1 0 1\n9 0 0 1\ncoarse 1\n"),
-    (channel(0, 0), "steps 0\nchannels 1\n0 0 0 0\ncoarse 1\n"),
-    (channel(65535, 256), None),
-    (channel(65535, 1) + step(H_IN, 0, 1), None),
-    (channel(1, 1) * 256 + step(H_IN, 0, 1), refused(10)),
-    (channel(2, 1) * 128 + step(H_IN, 0, 128), None),
-    (channel(1, 1) * 256, None),
-    (channel(65535, 0, 30, 30) * 256, None),
-    (channel(1, 1) + step(H_IN, 0, 1), "steps 1\nh in 0 1\nchannels 2\n1 1 1 0\n0 1 1 0\ncoarse 2\n"),
-    (meta(65535, 1) * 2 + channel(1, 1) + step(H_IN, 0, 1) * 64, None),
-    (channel(1, 1) * 256 + step(H_IN, 0, 0) * 65, refused(3)),
+# Questions 1 to 4, field by field.
+
+def read(record):
+    channels, steps, at = [], [], 0
+    while at < len(record):
+        ask(at + 3 <= len(record), 1)
+        tag, length = record[at], record[at + 1] + 256 * record[at + 2]
+        body = record[at + 3:at + 3 + length]
+        ask(len(body) == length, 1)
+        ask((tag, length) in [(1, 6), (2, 5)] and not (tag == 1 and steps), 2)
+        if tag == 1:
+            ask(len(channels) < MAX_CHANNELS, 3)
+            w, h, sh, sv = struct.unpack('<HHBB', body)
+            ask((sh <= MAX_SHIFT and sv <= MAX_SHIFT) or sh == sv == META, 4)
+            ask(sh != META or all(is_meta(c) for c in channels), 4)
+            channels.append((w, h, sh, sv))
+        else:
+            ask(len(steps) < MAX_STEPS, 3)
+            flags, first, number = struct.unpack('<BHH', body)
+            ask(flags < 4, 4)
+            steps.append((flags % 2 == 1, flags // 2 == 1, first, number))
+        at += 3 + length
+    ask(channels, 3)
+    return channels, steps
+
+
+def is_meta(c):
+    return c[2] == c[3] == META
+
+
+# "Default plan (reference `default_squeeze`)".
+
+def default_plan(channels):
+    m = sum(is_meta(c) for c in channels)
+    n = len(channels) - m
+    ask(n > 0, 11)
+    w, h = channels[m][:2]
+    steps = []
+    if n > 2 and channels[m + 1][:2] == (w, h):
+        steps += [(True, False, m + 1, 2)] * (w > 1) + [(False, False, m + 1, 2)] * (h > 1)
+    if w <= h and h > STOP:
+        steps.append((False, True, m, n))
+        h = (h + 1) // 2
+    while w > STOP or h > STOP:
+        if w > STOP:
+            steps.append((True, True, m, n))
+            w = (w + 1) // 2
+        if h > STOP:
+            steps.append((False, True, m, n))
+            h = (h + 1) // 2
+    return steps
+
+
+# Questions 7 to 11, and the list that a step leaves.
+
+def part(c, horizontal, rest):
+    w, h, sh, sv = c
+    side = w if horizontal else h
+    half = side // 2 if rest else side - side // 2
+    raised = (sh, sv) if is_meta(c) else (sh + horizontal, sv + (not horizontal))
+    return ((half, h) if horizontal else (w, half)) + raised
+
+
+def step(channels, horizontal, inplace, first, number):
+    end = first + number
+    ask(number >= 1 and end <= len(channels), 6)
+    ask(is_meta(channels[first]) == is_meta(channels[end - 1]), 7)
+    ask(inplace or not is_meta(channels[first]), 8)
+    ask(all(c[0] > 0 and c[1] > 0 for c in channels[first:end]), 9)
+    averages = [part(c, horizontal, False) for c in channels[first:end]]
+    residuals = [part(c, horizontal, True) for c in channels[first:end]]
+    ask(len(channels) + number <= MAX_CHANNELS, 10)
+    ask(all(is_meta(c) or max(c[2:]) <= MAX_SHIFT for c in averages), 10)
+    after = channels[end:]
+    return channels[:first] + averages + (residuals + after if inplace else after + residuals)
+
+
+# The program squeeze-list.
+
+def text(channels, steps):
+    lines = [f'steps {len(steps)}']
+    lines += [f'{"h" if s[0] else "v"} {"in" if s[1] else "out"} {s[2]} {s[3]}' for s in steps]
+    for s in steps:
+        channels = step(channels, *s)
+    lines.append(f'channels {len(channels)}')
+    lines += [f'{c[0]} {c[1]} m m' if is_meta(c) else '%d %d %d %d' % c for c in channels]
+    coarse = next((k for k, c in enumerate(channels) if max(c[:2]) > STOP), len(channels))
+    return '\n'.join(lines + [f'coarse {coarse}', ''])
+
+
+def listing(record):
+    try:
+        channels, steps = read(record)
+        ask(sum(c[0] * c[1] for c in channels) <= MAX_SAMPLES, 5)
+        return text(channels, steps or default_plan(channels))
+    except Refused as refusal:
+        return f'refused {refusal}\n'
+
+
+# Records.
+
+def channel(w, h, sh=0, sv=0):
+    return struct.pack('<BHHHBB', 1, 6, w, h, sh, sv)
+
+
+def meta(w, h):
+    return channel(w, h, META, META)
+
+
+def field(flags, first, number):
+    return struct.pack('<BHBHH', 2, 5, flags, first, number)
+
+
+def case(kind, record, refusal=None):
+    """`refusal`, where it is given, is what the case is there to show; 0 is none."""
+    expected = listing(record)
+    if refusal is not None:
+        assert expected.startswith('steps ') if refusal == 0 else expected == f'refused {refusal}\n', (kind, expected)
+    KINDS[kind].append((record, expected.encode()))
+
+
+PRINTED = channel(20, 9)
+TEXT = 'steps 3\nh in 0 1\nv in 0 1\nh in 0 1\nchannels 4\n5 5 2 1\n5 5 2 1\n10 4 1 1\n10 9 1 0\ncoarse 2\n'
+assert listing(PRINTED) == TEXT
+case('printed', PRINTED, 0)
+
+# A record cut at every byte: inside a field 1, at a field's end whatever the fields before it give.
+long = meta(3, 5) + channel(20, 9) + channel(20, 9, 1, 2) + field(3, 1, 2) + field(0, 1, 3) + field(2, 0, 1)
+for n in range(len(long) + 1):
+    inside = n in (0, 9, 18, 27, 35, 43, 51)
+    case('cuts', long[:n], None if inside else 1)
+
+REFUSALS = {
+    1: [channel(1, 1)[:8], channel(1, 1) + b'\x02\x05', b'\x07\xff\xff'],
+    2: [b'\x00\x00\x00', b'\x03\x06\x00' + bytes(6), b'\x01\x05\x00' + bytes(5), b'\x02\x06\x00' + bytes(6),
+        channel(9, 9) + field(3, 0, 1) + channel(9, 9)],
+    3: [b'', field(3, 0, 1), channel(1, 1) * 257, channel(64, 1) + field(3, 0, 1) * 65],
+    4: [channel(9, 9, 31, 0), channel(9, 9, 0, 31), channel(9, 9, 255, 0), channel(9, 9, 0, 255), channel(9, 9, 254, 254),
+        channel(9, 9) + meta(9, 9), channel(9, 9) + field(4, 0, 1), channel(9, 9) + field(255, 0, 1)],
+    5: [channel(4096, 4097), channel(65535, 65535), channel(4096, 4096) + channel(1, 1), meta(65535, 300)],
+    6: [channel(9, 9) + field(3, 0, 0), channel(9, 9) + field(3, 0, 2), channel(9, 9) + field(3, 1, 1),
+        channel(9, 9) + field(3, 65535, 65535), channel(9, 9) + field(3, 0, 1) + field(3, 1, 2)],
+    7: [meta(9, 9) + channel(9, 9) + field(3, 0, 2)],
+    8: [meta(9, 9) + channel(9, 9) + field(1, 0, 1), meta(9, 9) + field(0, 0, 1)],
+    9: [channel(0, 9) + field(3, 0, 1), channel(9, 0) + field(3, 0, 1), channel(1, 1) + field(3, 0, 1) + field(3, 1, 1),
+        channel(9, 9) + channel(9, 0) + channel(9, 9) + field(3, 0, 3)],
+    10: [channel(9, 9, 30, 0) + field(3, 0, 1), channel(9, 9, 0, 30) + field(2, 0, 1), channel(2, 2) * 256 + field(3, 0, 1),
+         channel(9, 9) * 130 + field(1, 0, 127)],
+    11: [meta(9, 9), meta(1, 1) * 256],
+}
+for number, records in REFUSALS.items():
+    for record in records:
+        case('refusals', record, number)
+
+# Two questions broken at once: the first in the paper's order is the refusal; in a form, the first field's.
+ORDER = [
+    (1, b'\x09\x04\x00\x01'), (1, channel(1, 1) * 256 + b'\x01\x06\x00\x01'), (1, channel(9, 9) + b'\x02\x05\x00\xff'),
+    (2, channel(1, 1) * 256 + b'\x01\x07\x00' + bytes(7)), (2, channel(9, 9) + field(3, 0, 1) + channel(9, 9, 31, 0)),
+    (3, channel(1, 1) * 256 + channel(1, 1, 31, 0)), (3, channel(1, 1) + field(3, 0, 1) * 64 + field(4, 0, 1)),
+    (3, field(3, 0, 0)), (4, channel(9, 9, 31, 0) + b'\x01\x06'), (4, channel(65535, 65535, 31, 0)),
+    (4, channel(65535, 65535) + field(4, 0, 0)), (4, channel(9, 9, 31, 0) + channel(1, 1) * 256),
+    (3, channel(1, 1) * 257 + b'\x01'), (2, b'\x05\x00\x00\x01'), (4, field(7, 0, 1)),
+    (5, meta(65535, 65535)), (5, channel(65535, 65535) + field(3, 0, 0)),
+    (6, meta(9, 9) + channel(9, 9) + field(1, 0, 3)), (6, channel(0, 0) + field(3, 0, 2)), (6, meta(9, 9) + field(1, 0, 0)),
+    (7, meta(9, 9) + channel(9, 9) + field(1, 0, 2)), (7, meta(0, 0) + channel(0, 0) + field(3, 0, 2)),
+    (7, meta(2, 2) + channel(2, 2, 30, 30) * 255 + field(1, 0, 2)),
+    (8, meta(0, 9) + field(1, 0, 1)), (8, meta(2, 2) * 256 + field(1, 0, 1)),
+    (9, channel(0, 9, 30, 30) + field(3, 0, 1)), (9, channel(0, 2) * 256 + field(3, 0, 1)),
+    (9, channel(0, 9) + field(3, 0, 1) + field(3, 9, 9)), (6, channel(9, 9) + field(3, 9, 9) + field(0, 0, 0)),
 ]
+for number, record in ORDER:
+    case('order', record, number)
 
+# Limits: 64 and 65 steps, 256 and 257 channels, shifts 30 and 31, the range's end at and past the count, samples.
+small = channel(8, 8)
+for steps in (1, 63, 64, 65, 66):
+    case('limits', b''.join(channel(k + 1, 2) for k in range(66)) + b''.join(field(0, k, 1) for k in range(steps)), 0 if steps < 65 else 3)
+    case('limits', channel(1, 1) + field(3, 0, 1) * steps, 0 if steps < 31 else 10 if steps < 65 else 3)
+    case('limits', channel(65535, 1, 10, 10) * 192 + b''.join(field(1, 100 + k, 1) for k in range(steps)), 0 if steps < 65 else 3)
+for count in (1, 2, 3, 128, 129, 252, 253, 255, 256, 257, 258):
+    case('limits', channel(1, 1) * count, 0 if count < 257 else 3)
+    case('limits', small * count, 0 if count < 253 else 10 if count < 257 else 3)
+    case('limits', small * count + field(3, 0, 1), 0 if count < 256 else 10 if count == 256 else 3)
+    case('limits', small * count + field(1, 0, min(count, 128)), 0 if count <= 128 else 10 if count <= 256 else 3)
+for shift in (0, 1, 29, 30, 31, 32, 254, 255):
+    for record in (channel(8, 8, shift, 0), channel(8, 8, 0, shift), channel(8, 8, shift, shift),
+                   channel(9, 8, shift, 0), channel(8, 9, 0, shift)):
+        case('limits', record)
+        case('limits', record + field(3, 0, 1))
+        case('limits', record + field(0, 0, 1))
+for first in range(6):
+    for number in range(6):
+        for flags in range(4):
+            case('limits', small * 4 + field(flags, first, number), 0 if number and first + number <= 4 else 6)
+for w, h, refusal in ((4096, 4096, 0), (4096, 4097, 5), (65535, 256, 0), (65535, 257, 5), (256, 65535, 0), (65535, 1, 0)):
+    case('limits', channel(w, h), refusal)
 
-def several(rnd):
-    """A record of several fields, most of them allowed, and now and then one that is not."""
-    side = lambda: rnd.choice([0, 1, 2, 3, 7, 8, 9, 16, 17, 100, 4096, 65535, rnd.randrange(200)])
-    shift = lambda: rnd.choice([0, 0, 0, 1, 29, 30, 31] if rnd.random() < 0.2 else [0, 1, 2])
-    data = b"".join(meta(side(), rnd.randrange(3)) for _ in range(rnd.choice([0, 0, 0, 1, 2])))
-    data += b"".join(channel(side(), side() if rnd.random() < 0.4 else rnd.randrange(1, 20), shift(), shift()) for _ in range(rnd.randrange(5)))
-    for _ in range(rnd.choice([0, 1, 1, 2, 3, 5])):
-        data += step(rnd.choice([0, 1, 2, 3, 3, 2]) if rnd.random() < 0.97 else rnd.randrange(256), rnd.randrange(4), rnd.choice([1, 1, 1, 2, 3, 0]))
-    if rnd.random() < 0.15 and data:
-        k = rnd.randrange(len(data))
-        data = data[:k] + bytes([rnd.randrange(256)]) + data[k + 1:]
-    return data
+# Sides 0, 1, 2 and about the stopping side and its doubles.
+for w in (0, 1, 2, 7, 8, 9, 16, 17, 33, 65535):
+    for h in (0, 1, 2, 7, 8, 9, 16, 17, 33):
+        case('sizes', channel(w, h))
+        case('sizes', channel(w, h) * 3)
+        for flags in range(4):
+            case('sizes', channel(w, h) + field(flags, 0, 1))
 
+# Meta channels: before the others, squeezed, all of them.
+for m in range(4):
+    for n in range(5):
+        record = meta(20, 3) * m + channel(20, 9) * n
+        case('metas', record)
+        for flags in range(4):
+            for first, number in ((0, 1), (0, m), (m, n), (0, m + n), (m - 1, 2)):
+                if first >= 0:
+                    case('metas', record + field(flags, first, number))
 
-def main():
-    records = []
-    for data, text in NAMED:
-        if text is not None and listing(data) != text:
-            sys.exit("the rules give %r for %s" % (listing(data), data.hex()))
-        records.append(data)
-    whole = meta(5, 1) + channel(20, 9) + channel(9, 20, 1, 0) + step(H_IN, 1, 2) + step(H_OUT, 1, 1)
-    records += [whole[:k] for k in range(len(whole) + 1)]
-    records += [whole[:k] + bytes([b]) + whole[k + 1:] for k in range(len(whole)) for b in (0, 1, 2, 6, 255)]
-    rnd = random.Random(5)
-    records += [several(rnd) for _ in range(800)]
-    # more than the program reads: its first 4,096 bytes, and all of them
-    records += [bytes(rnd.randrange(256) for _ in range(n)) for n in (4095, 4096, 4097, 6000)]
-    records += [(channel(1, 1) * 456)[:n] for n in (4096, 4097, 4104)]
-    out = b"".join(struct.pack("<HH", len(d), len(listing(d))) + d + listing(d).encode() for d in records)
-    if len(out) > PROGRAM_READS:
-        sys.exit("%d bytes are more than the program reads" % len(out))
-    sys.stdout.buffer.write(out)
-    sys.stderr.write("records %d\n" % len(records))
+# Default plans of three and more channels, alike or not, and longer plans on them.
+for second in ((40, 30), (20, 30), (40, 15), (20, 15), (1, 1)):
+    for third in ((40, 30), (20, 15)):
+        for metas in range(3):
+            record = meta(5, 5) * metas + channel(40, 30) + channel(*second) + channel(*third)
+            case('plans', record)
+            case('plans', record + channel(40, 30))
+            for flags in range(4):
+                case('plans', record + field(flags, metas + 1, 2) + field(3 - flags, metas, 1))
+                case('plans', record + field(flags, metas, 3) + field(flags ^ 2, metas, 2) + field(flags ^ 1, metas + 2, 3))
+for sides in ((1, 40), (40, 1), (2, 2), (1, 1), (1, 2), (2, 1)):
+    case('plans', channel(*sides) * 3, 0)
 
+# Long inputs, and each value of a byte of the printed record.
+case('bytes', b'', 3)
+for n in (4095, 4096, 4097, 5000):
+    case('bytes', (channel(1, 1) * 600)[:n], 3)
+    case('bytes', channel(1, 1) + (field(3, 0, 1) * 600)[:n - 9], 3)
+    case('bytes', b'\x01\x06\x00' + bytes(n - 3), 2)
+    case('bytes', struct.pack('<BH', 9, n - 3) + bytes(n - 3), 2)
+    case('bytes', struct.pack('<BH', 9, n - 2) + bytes(n - 3), 1)
+for at in range(len(PRINTED)):
+    for value in range(256):
+        case('bytes', PRINTED[:at] + bytes([value]) + PRINTED[at + 1:])
+for at in range(8):
+    for value in (0, 1, 2, 3, 4, 5, 6, 128, 255):
+        step_bytes = field(3, 0, 1)
+        case('bytes', PRINTED + step_bytes[:at] + bytes([value]) + step_bytes[at + 1:])
 
-if __name__ == "__main__":
-    main()
+out = sys.stdout.buffer
+for kind, cases in KINDS.items():
+    out.write(struct.pack('<I', len(cases)))
+    for record, expected in cases:
+        out.write(struct.pack('<I', len(record)) + record + struct.pack('<I', len(expected)) + expected)
+    print(kind, len(cases), 'refused', sum(e.startswith(b'refused') for _, e in cases), file=sys.stderr)

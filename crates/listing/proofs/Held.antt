@@ -1,6 +1,6 @@
 -- The channels and the steps that flat arrays hold, where their count is within its limit. Assumes nothing.
-use mathlib.Core.Path.{_≡_, ap, _∙_}
-use Prim.Native.Nat.{ℕ, _≤_, min}
+use mathlib.Core.Path.{_≡_, ap}
+use Prim.Native.Nat.{_≤_, min}
 use native.Mathlib.Omega.{arith}
 use lib.ListN.{length}
 use Rattle.list.specs.declared.ChannelList.{ChannelList}

@@ -1,12 +1,12 @@
 -- What a listing comes to (specs/Listing.antt), by the answers that the code has found on the way. Assumes nothing.
 use mathlib.Core.Path.{_≡_, refl, sym, ap, _∙_}
 use mathlib.Core.Bool.{Bool, true, false, cond}
-use mathlib.Core.List.{List, [], _∷_, _++_}
+use mathlib.Core.List.{List, [], _∷_}
 use Prim.Native.Nat.{ℕ, _<_, _≤_}
 use native.Mathlib.Nat.{zero-add}
 use native.Mathlib.Omega.{arith}
 use lib.Dec.{eqb}
-use lib.ListN.{length, drop}
+use lib.ListN.{length}
 use borrow.Author.Tests.{eqb-true, ne-eqb, le-leb, lt-leb}
 use Rattle.channel.specs.declared.Channel.{Channel}
 use Rattle.list.specs.declared.ChannelList.{ChannelList}
@@ -29,7 +29,6 @@ use Rattle.record.specs.declared.Record.{Record}
 use Rattle.record.specs.Reading.{formOf}
 use Rattle.record.specs.Records as R
 use Rattle.record.specs.Records.{readAnswer, readOf}
-use Rattle.record.specs.Bytes.{placed}
 use Rattle.record.proofs.Judged.{both-passed, plan-answer, judged-parts, judged-list, judged-counts}
 use Rattle.listing.specs.Text.{numbered, refusedWord}
 use Rattle.listing.specs.Listing.{planText, listing, listed, textAfter}

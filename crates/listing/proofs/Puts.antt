@@ -1,13 +1,13 @@
 -- Parts put one after the other (`Put` of specs/Putting.antt), and a loop that puts the lines of a table one by one. Assumes nothing.
 use mathlib.Core.Path.{_≡_, refl, sym, ap, _∙_}
 use mathlib.Core.List.{List, [], _++_, append-assoc, append-nil}
-use Prim.Native.Nat.{ℕ, _+_, _-_, _*_, _<_, _≤_}
+use Prim.Native.Nat.{ℕ, _+_, _-_, _<_, _≤_}
 use native.Mathlib.Omega.{arith}
 use lib.ListN.{length, take, drop, length-append}
 use lib.Seq.{take-at}
 use Rattle.list.specs.Tables.{table}
 use Rattle.list.proofs.Tables.{table-rest, table-none}
-use Rattle.record.specs.Bytes.{joined, placed}
+use Rattle.record.specs.Bytes.{joined}
 use Rattle.record.proofs.Placed.{placed-none, placed-length, placed-more}
 use Rattle.listing.specs.Putting.{Put}
 
@@ -38,7 +38,7 @@ module _ {new before after : List ℕ} {end : ℕ} (p : Put new 0 before after e
   pub front-length : end ≡ length (take end after)
   front-length = front-end ∙ sym (ap length put-front)
 
--- n lines, those of f, each with room for `size`; k of them are put from `start` on
+-- n lines, those of f; k of them are put from `start` on, and those that are left complete them
 pub record Lines {ℓ} {A : Type ℓ} (line : A → List ℕ) (f : ℕ → A) (n start : ℕ) (text₀ text : List ℕ) (at k : ℕ) : Type ℓ where
   pub done : List ℕ
   pub inside : k ≤ n

@@ -13,15 +13,25 @@ pub record Put (new : List ℕ) (at : ℕ) (before after : List ℕ) (end : ℕ)
   pub inside : end ≤ length before
   pub so : after ≡ placed before at new
 
--- room for a number, which has at most five digits, for the longest step line, "v out 65535 65535", for any channel line, and for any listing
+-- room for a number, which has at most five digits, for two with a space between them, and for a step's two words
 abbrev pub numberRoom : ℕ
 numberRoom = 5
 
+abbrev pub twoRoom : ℕ
+twoRoom = numberRoom + 1 + numberRoom
+
+abbrev pub directionRoom : ℕ
+directionRoom = 2
+
+abbrev pub placeRoom : ℕ
+placeRoom = 4
+
+-- room for a step line, for a channel line, and for any listing: at most 64 of the one and 256 of the other, and three heads
 abbrev pub stepRoom : ℕ
-stepRoom = 18
+stepRoom = directionRoom + placeRoom + twoRoom + 1
 
 abbrev pub channelRoom : ℕ
-channelRoom = 24
+channelRoom = twoRoom + 1 + twoRoom + 1
 
 abbrev pub listingRoom : ℕ
 listingRoom = 8192

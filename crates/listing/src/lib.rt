@@ -43,7 +43,7 @@ fn put_word(word: &[u8], at: usize, text: &mut [u8]) -> usize
 fn digit(n: usize) -> u8
     ensures { λ r. ⌜ r ≡ Text.digit (n % 10) ⌝ }
 {
-    48 + (n % 10) as u8
+    b'0' + (n % 10) as u8
 }
 
 fn five_digits(n: usize) -> [u8; 5]
@@ -102,9 +102,9 @@ fn put_numbered(word: &[u8], n: usize, at: usize, text: &mut [u8]) -> usize
 }
 
 fn put_direction(horizontal: bool, at: usize, text: &mut [u8]) -> usize
-    requires { ⌜ at + 2 ≤ length (now text) ⌝ }
+    requires { ⌜ at + Putting.directionRoom ≤ length (now text) ⌝ }
     ensures { λ r. ⌜ Put (Text.directionWord horizontal) at (now (text .entry)) (now (text .exit)) r ⌝ }
-    ensures room { λ r. ⌜ r ≤ at + 2 ⌝ }
+    ensures room { λ r. ⌜ r ≤ at + Putting.directionRoom ⌝ }
 {
     if horizontal {
         put_word(b"h ", at, text)
@@ -114,9 +114,9 @@ fn put_direction(horizontal: bool, at: usize, text: &mut [u8]) -> usize
 }
 
 fn put_place(inplace: bool, at: usize, text: &mut [u8]) -> usize
-    requires { ⌜ at + 4 ≤ length (now text) ⌝ }
+    requires { ⌜ at + Putting.placeRoom ≤ length (now text) ⌝ }
     ensures { λ r. ⌜ Put (Text.placeWord inplace) at (now (text .entry)) (now (text .exit)) r ⌝ }
-    ensures room { λ r. ⌜ r ≤ at + 4 ⌝ }
+    ensures room { λ r. ⌜ r ≤ at + Putting.placeRoom ⌝ }
 {
     if inplace {
         put_word(b"in ", at, text)
@@ -127,9 +127,9 @@ fn put_place(inplace: bool, at: usize, text: &mut [u8]) -> usize
 
 // Two numbers with a space between them.
 fn put_two(first: usize, second: usize, at: usize, text: &mut [u8]) -> usize
-    requires { ⌜ at + 11 ≤ length (now text) ⌝ }
+    requires { ⌜ at + Putting.twoRoom ≤ length (now text) ⌝ }
     ensures { λ r. ⌜ Put (Text.two first second) at (now (text .entry)) (now (text .exit)) r ⌝ }
-    ensures room { λ r. ⌜ r ≤ at + 11 ⌝ }
+    ensures room { λ r. ⌜ r ≤ at + Putting.twoRoom ⌝ }
 {
     let end = put_number(first, at, text);
     let end = put_word(b" ", end, text);
@@ -150,9 +150,9 @@ fn put_step(step: Step, at: usize, text: &mut [u8]) -> usize
 
 // The two shifts, or "m m".
 fn put_shifts(c: Channel, at: usize, text: &mut [u8]) -> usize
-    requires { ⌜ at + 11 ≤ length (now text) ⌝ }
+    requires { ⌜ at + Putting.twoRoom ≤ length (now text) ⌝ }
     ensures { λ r. ⌜ Put (Text.shiftWords c) at (now (text .entry)) (now (text .exit)) r ⌝ }
-    ensures room { λ r. ⌜ r ≤ at + 11 ⌝ }
+    ensures room { λ r. ⌜ r ≤ at + Putting.twoRoom ⌝ }
 {
     if c.is_meta() {
         put_word(b"m m", at, text)

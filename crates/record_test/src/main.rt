@@ -1,46 +1,35 @@
-// Replays records (tests/records.py made `stdin` by document 01's rules, and
-// says how it is laid out): lists each, and writes each that is accepted back.
-// Prints how many there were and how many came out right.
-ghost use Prim.Native.Nat.{_<_};
+// Replays records (tests/records.py made `stdin`): each with the listing that
+// document 01 asks for, and, where it is accepted, written back. Every byte of
+// the text, of the record and of the room around them is compared, and each call
+// is made with a slice that is one byte short too. Prints, for each kind of
+// case, how many there were and how many came out right.
+ghost use Prim.Native.Nat.{_<_, _≤_};
+ghost use lib.ListN.{length};
 use libc::STDIN_FILENO;
 use libc::STDOUT_FILENO;
 use listing::LISTING_ROOM;
 
-// A case: the lengths of the record and of its listing, two bytes each, then
-// the bytes of both.
-const HEAD: usize = 4;
+// Room for a record, and for what is written with something around it.
+const RECORD_ROOM: usize = 6144;
 
-const RECORD_ROOM: usize = 4096;
+// What stands in the room where nothing was written.
+const MARK: u8 = 0xa5;
 
-fn byte_at(bytes: &[u8], at: usize) -> usize
-    ensures { λ r. ⌜ r < 256 ⌝ }
-{
-    if at < bytes.len() {
-        bytes[at] as usize
-    } else {
-        0
+// The refusal of a slice that is too short.
+const REFUSED_SLICE: u32 = 12;
+
+fn fill(s: &mut [u8]) {
+    for i in 0..s.len() {
+        s[i] = MARK;
     }
 }
 
-// The number at `at`, two bytes, least byte first.
-fn number_at(bytes: &[u8], at: usize) -> usize
-    ensures { λ r. ⌜ r < 65536 ⌝ }
-{
-    if bytes.len() <= at {
-        return 0;
+fn kept(s: &[u8]) -> bool {
+    let mut right = true;
+    for i in 0..s.len() {
+        right = right & (s[i] == MARK);
     }
-    byte_at(bytes, at) + 0x100 * byte_at(bytes, at + 1)
-}
-
-// The bytes from `from` to `end`; none where there are not so many.
-fn part(bytes: &[u8], from: usize, end: usize) -> &[u8] {
-    if end < from {
-        return &bytes[..0];
-    }
-    if bytes.len() < end {
-        return &bytes[..0];
-    }
-    &bytes[from..end]
+    right
 }
 
 fn same(a: &[u8], b: &[u8]) -> bool {
@@ -54,48 +43,127 @@ fn same(a: &[u8], b: &[u8]) -> bool {
     right
 }
 
-// Whether a record that is accepted is written back byte for byte, and the
-// byte past it stays.
-fn written_back(record: &[u8]) -> bool {
-    let read = record::read_record(record);
+// Whether the room begins with `bytes`, and nothing was written past them.
+fn begins(room: &[u8], bytes: &[u8]) -> bool {
+    let n = bytes.len();
+    if room.len() < n {
+        return false;
+    }
+    same(&room[0..n], bytes) & kept(&room[n..])
+}
+
+// Whether the listing of a record is `text`.
+fn lists(bytes: &[u8], text: &[u8], room: &mut [u8]) -> bool {
+    let n = text.len();
+    if n == 0 {
+        return false;
+    }
+    if room.len() < n {
+        return false;
+    }
+    fill(room);
+    let short = listing::list_record(bytes, &mut room[0..n - 1]);
+    if (short.answer != REFUSED_SLICE) | (short.length != 0) | !kept(room) {
+        return false;
+    }
+    let listed = listing::list_record(bytes, room);
+    (listed.answer == 0) & (listed.length == n) & begins(room, text)
+}
+
+// Whether a record is written back as it was read, or nothing is read of it.
+fn writes_back(bytes: &[u8], room: &mut [u8]) -> bool {
+    let read = record::read_record(bytes);
     if read.answer != 0 {
-        return true;
+        return (read.list.count == 0) & (read.steps.count == 0);
     }
-    let mut page = [0xAAu8; RECORD_ROOM];
-    let written = record::write_record(read.list, read.steps, &mut page);
-    let end = byte_at(&page, written.length);
-    (written.answer == 0) & (end == 0xAA) & same(part(&page, 0, written.length), record)
+    let n = bytes.len();
+    if n == 0 {
+        return false;
+    }
+    if room.len() < n {
+        return false;
+    }
+    fill(room);
+    let short = record::write_record(read.list, read.steps, &mut room[0..n - 1]);
+    if (short.answer != REFUSED_SLICE) | (short.length != 0) | !kept(room) {
+        return false;
+    }
+    let written = record::write_record(read.list, read.steps, room);
+    (written.answer == 0) & (written.length == n) & begins(room, bytes)
 }
 
-fn case_agrees(record: &[u8], text: &[u8]) -> bool {
-    let mut page = [0u8; LISTING_ROOM];
-    let listed = listing::list_record(record, &mut page);
-    let right = same(part(&page, 0, listed.length), text);
-    (listed.answer == 0) & right & written_back(record)
+fn byte_at(bytes: &[u8], at: usize) -> u32
+    ensures { λ r. ⌜ r < 256 ⌝ }
+{
+    if at < bytes.len() {
+        bytes[at] as u32
+    } else {
+        0
+    }
 }
 
-// All cases, or those that come out right.
-fn tally(bytes: &[u8], all: bool) -> u64 {
-    let mut cases = 0u64;
-    let mut at = 0;
-    while at < bytes.len() {
-        let middle = at + HEAD + number_at(bytes, at);
-        let end = middle + number_at(bytes, at + 2);
-        if all || case_agrees(part(bytes, at + HEAD, middle), part(bytes, middle, end)) {
-            cases += 1;
+// The next number of standard input, four bytes, least byte first; past its end
+// 0.
+fn read_word() -> u32 {
+    let mut bytes = [0u8; 4];
+    io::read_full(STDIN_FILENO, &mut bytes);
+    let low = byte_at(&bytes, 0) + 0x100 * byte_at(&bytes, 1);
+    let high = byte_at(&bytes, 2) + 0x100 * byte_at(&bytes, 3);
+    low + 0x1_0000 * high
+}
+
+// Puts the next bytes at the start of `space`; how many, or 0 if they are not
+// whole.
+fn read_part(space: &mut [u8]) -> usize
+    ensures { λ r. ⌜ r ≤ length (now (space .entry)) ⌝ }
+{
+    let n = read_word() as usize;
+    if space.len() < n {
+        return 0;
+    }
+    if io::read_full(STDIN_FILENO, &mut space[0..n]) < n {
+        return 0;
+    }
+    n
+}
+
+// Replays the next cases of standard input; how many are right.
+fn replay(cases: u32) -> u64 {
+    let mut bytes = [0u8; RECORD_ROOM];
+    let mut text = [0u8; LISTING_ROOM];
+    let mut room = [0u8; LISTING_ROOM];
+    let mut right = 0u64;
+    for _ in 0..cases {
+        let n = read_part(&mut bytes);
+        let m = read_part(&mut text);
+        let listed = lists(&bytes[0..n], &text[0..m], &mut room);
+        let written = writes_back(&bytes[0..n], &mut room);
+        if listed & written {
+            right += 1;
         }
-        at = end;
     }
-    cases
+    right
+}
+
+// Replays the cases of the next kind and says how many are right.
+fn kind(name: &[u8]) {
+    let cases = read_word();
+    let right = replay(cases);
+    io::write_all(STDOUT_FILENO, name);
+    io::print_decimal(STDOUT_FILENO, cases as u64);
+    io::write_all(STDOUT_FILENO, b" right ");
+    io::print_decimal(STDOUT_FILENO, right);
+    io::write_all(STDOUT_FILENO, b"\n");
 }
 
 fn main() {
-    let mut buffer = [0u8; 524288];
-    let n = io::read_full(STDIN_FILENO, &mut buffer);
-    let bytes = &buffer[..n];
-    io::write_all(STDOUT_FILENO, b"records ");
-    io::print_decimal(STDOUT_FILENO, tally(bytes, true));
-    io::write_all(STDOUT_FILENO, b" right ");
-    io::print_decimal(STDOUT_FILENO, tally(bytes, false));
-    io::write_all(STDOUT_FILENO, b"\n");
+    kind(b"printed ");
+    kind(b"cuts ");
+    kind(b"refusals ");
+    kind(b"order ");
+    kind(b"limits ");
+    kind(b"sizes ");
+    kind(b"metas ");
+    kind(b"plans ");
+    kind(b"bytes ");
 }

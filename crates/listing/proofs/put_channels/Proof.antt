@@ -1,12 +1,12 @@
 -- `put_channels` meets its contract. The loop's invariant: the lines so far are in the text (proofs/Puts.antt), with room for each. Assumes nothing.
-use mathlib.Core.Path.{_≡_, ap, _∙_}
+use mathlib.Core.Path.{ap}
 use Prim.Native.Nat.{_+_, _-_, _*_, _≤_}
 use native.Mathlib.Omega.{arith}
 use borrow.Author.Needs.{needs}
 use Rattle.list.specs.Lists.{channelAt}
 use Rattle.record.specs.Bytes.{joined}
 use Rattle.listing.specs.Text.{channelLine}
-use Rattle.listing.specs.Putting.{Put, channelRoom}
+use Rattle.listing.specs.Putting.{channelRoom}
 use Rattle.listing.proofs.Puts.{put-length, Lines, lines-none, lines-more, lines-all}
 use Rattle.listing.proofs.Held.{channels-are}
 use Rattle.listing.proofs.put_channels.Statement.{statement}

@@ -1,7 +1,5 @@
 -- `put_plan` meets its contract: five parts, one after the other. Assumes nothing.
-use mathlib.Core.Path.{_∙_}
 use borrow.Author.Needs.{needs}
-use Rattle.listing.specs.Text.{numbered, stepsWord, channelsWord, coarseWord}
 use Rattle.listing.specs.Listing.{planText}
 use Rattle.listing.proofs.Puts.{then}
 use Rattle.listing.proofs.Held.{channels-count, steps-count}

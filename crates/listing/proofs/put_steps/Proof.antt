@@ -1,12 +1,12 @@
 -- `put_steps` meets its contract. The loop's invariant: the lines so far are in the text (proofs/Puts.antt), with room for each. Assumes nothing.
-use mathlib.Core.Path.{_≡_, ap, _∙_}
+use mathlib.Core.Path.{ap}
 use Prim.Native.Nat.{_+_, _-_, _*_, _≤_}
 use native.Mathlib.Omega.{arith}
 use borrow.Author.Needs.{needs}
 use Rattle.plan.specs.Steps.{stepAt}
 use Rattle.record.specs.Bytes.{joined}
 use Rattle.listing.specs.Text.{stepLine}
-use Rattle.listing.specs.Putting.{Put, stepRoom}
+use Rattle.listing.specs.Putting.{stepRoom}
 use Rattle.listing.proofs.Puts.{put-length, Lines, lines-none, lines-more, lines-all}
 use Rattle.listing.proofs.Held.{steps-are}
 use Rattle.listing.proofs.put_steps.Statement.{statement}

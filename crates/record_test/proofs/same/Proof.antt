@@ -1,4 +1,4 @@
--- `same` is safe and ends: one turn for each byte of two slices of one length. Assumes nothing.
+-- `same` is safe and ends: one turn for each byte. Assumes nothing.
 use mathlib.Core.Path.{_≡_}
 use Prim.Native.Nat.{_-_, _≤_}
 use borrow.Author.Needs.{needs}

@@ -1,0 +1,48 @@
+-- Rebuilding and writing by a record (document 01, "The entry", "The questions", "Whole runs"): the record's questions 1 to 11, then 14 of the
+-- slices. Definitions only.
+use mathlib.Core.Bool.{Bool, cond, _&&_}
+use mathlib.Core.List.{List}
+use Prim.Native.Nat.{ℕ}
+use lib.Dec.{eqb}
+use lib.IntN.{ℤ}
+use lib.ListN.{length}
+use Rattle.channel.specs.declared.Channel.{Channel}
+use Rattle.list.specs.declared.Step.{Step}
+use Rattle.list.specs.Lists.{total}
+use Rattle.list.specs.Questions.{ask}
+use Rattle.plan.specs.Plans.{meant}
+use Rattle.record.specs.Reading.{formOf}
+use Rattle.record.specs.Records.{readAnswer}
+use Rattle.buffer.specs.Buffer.{zeros}
+use Rattle.runs.specs.Runs.{rebuilt, squeezed}
+
+-- the record's channels, and the steps of its plan, the default plan's where it has none
+abbrev pub channelsOf : List ℕ → List Channel
+channelsOf bytes = formOf bytes .channels
+
+abbrev pub stepsOf : List ℕ → List Step
+stepsOf bytes = meant (formOf bytes .steps) (channelsOf bytes)
+
+-- 14. "Has each sample slice exactly its length"
+abbrev pub fits : List ℕ → List ℤ → Bool
+fits bytes xs = eqb (length xs) (total (channelsOf bytes))
+
+-- the slice that is read, the slice that is filled, the work slice
+unfoldable pub answer : List ℕ → List ℤ → List ℤ → List ℤ → ℕ
+answer bytes read filled work =
+    ask (eqb (readAnswer bytes) 0) (readAnswer bytes)
+    (ask (fits bytes read && (fits bytes filled && fits bytes work)) 12 0)
+
+-- ---- the slices afterwards: "lent slices keep their contents" where the call is refused
+-- rebuilding: the picture of the pyramid; writing: the pyramid of the picture
+unfoldable pub pictureOf : List ℕ → List ℤ → List ℤ → List ℤ → List ℤ
+pictureOf bytes pyramid picture work =
+    cond (eqb (answer bytes pyramid picture work) 0) (rebuilt (stepsOf bytes) (channelsOf bytes) pyramid) picture
+
+unfoldable pub pyramidOf : List ℕ → List ℤ → List ℤ → List ℤ → List ℤ
+pyramidOf bytes picture pyramid work =
+    cond (eqb (answer bytes picture pyramid work) 0) (squeezed (stepsOf bytes) (channelsOf bytes) picture) pyramid
+
+-- "a work slice as long as the picture, all zero after success"
+unfoldable pub workOf : List ℕ → List ℤ → List ℤ → List ℤ → List ℤ
+workOf bytes read filled work = cond (eqb (answer bytes read filled work) 0) (zeros work) work
