@@ -3,6 +3,9 @@
 //!
 //! usage: tile [SECONDS-PER-ROW]
 
+mod plain;
+
+use plain::unsqueeze;
 use std::time::Instant;
 
 #[link(name = "tile", kind = "static")]
@@ -14,31 +17,6 @@ extern "C" {
         next: *const i32, next_len: usize, prev: *const i32, prev_len: usize,
         out: *mut i32, out_len: usize,
     ) -> u32;
-}
-
-#[inline(always)]
-fn tendency(a: i32, b: i32, c: i32) -> i32 {
-    let (x, y, z) = (a.wrapping_sub(b), b.wrapping_sub(c), a.wrapping_sub(c));
-    if (x < 0 && y > 0) || (x > 0 && y < 0) {
-        return 0;
-    }
-    let (p, q, r) = (x.wrapping_abs(), y.wrapping_abs(), z.wrapping_abs());
-    let t = ((p as i64 * 0x5555_5556) >> 32) as i32;
-    let mut v = 2i32.wrapping_add(r).wrapping_add(t) >> 2;
-    if v > p.wrapping_mul(2).wrapping_add(v & 1) {
-        v = p.wrapping_mul(2).wrapping_add(1);
-    }
-    if v.wrapping_add(v & 1) > q.wrapping_mul(2) {
-        v = q.wrapping_mul(2);
-    }
-    if z < 0 { v.wrapping_neg() } else { v }
-}
-
-#[inline(always)]
-fn unsqueeze(avg: i32, res: i32, next: i32, prev: i32) -> (i32, i32) {
-    let d = res.wrapping_add(tendency(prev, avg, next));
-    let first = avg.wrapping_add(d.wrapping_add((d < 0) as i32) >> 1);
-    (first, first.wrapping_sub(d))
 }
 
 /// Row by row, pair by pair.
