@@ -1,9 +1,10 @@
 /* Squeeze of JPEG XL's Modular mode: the functions that the archives export.
 
-   A slice is a pointer and a number of elements. Slices of one call must not
-   overlap, and a pointer must be aligned and not null, for an empty slice too.
-   Every function answers 0, or the number of a refusal; a refused call changes
-   nothing. No other condition is asked of any argument.
+   All are in libsqueeze.a. A slice is a pointer and a number of elements. Slices
+   of one call must not overlap, and a pointer must be aligned and not null, for
+   an empty slice too. Every function but squeeze_listing answers 0, or the number
+   of a refusal; a refused call changes nothing. No other condition is asked of
+   any argument.
 
    Refusals:  1 a field's head or length runs past the record
               2 unknown tag, wrong length, or a channel after a step
@@ -14,7 +15,8 @@
               9 an empty side      10 too many channels, or a shift above 30
              11 a default plan without a channel that is not meta
              12 a slice of another length
-             13 sizes or lines of a tile call that don't fit */
+             13 sizes or lines of a tile call that don't fit
+             14 a rectangle's kinds or group dimension */
 #ifndef SQUEEZE_H
 #define SQUEEZE_H
 
@@ -29,13 +31,13 @@ extern "C" {
    channels and the plan. pyramid: one sample after the other, channel by
    channel of the rewritten list; read only. picture: the same number of
    samples; written. work: as long as the picture, any contents; all zero after
-   success. In libsqueeze.a. */
+   success. */
 uint32_t squeeze_rebuild(const uint8_t *record, size_t record_len,
                          const int32_t *pyramid, size_t pyramid_len,
                          int32_t *picture, size_t picture_len,
                          int32_t *work, size_t work_len);
 
-/* Writes the pyramid of a picture: the reverse. In libsqueeze.a. */
+/* Writes the pyramid of a picture: the reverse. */
 uint32_t squeeze_write(const uint8_t *record, size_t record_len,
                        const int32_t *picture, size_t picture_len,
                        int32_t *pyramid, size_t pyramid_len,
@@ -44,7 +46,7 @@ uint32_t squeeze_write(const uint8_t *record, size_t record_len,
 /* One tile of an inverse squeeze, horizontal unless the first number is 0:
    aw by ah averages, rw by rh residuals, ow by oh samples of output. next: the
    next tile's first average line, or empty. prev: the last line that the tile
-   before wrote, or empty. In libtile.a. */
+   before wrote, or empty. */
 uint32_t squeeze_tile(uint32_t horizontal,
                       size_t aw, size_t ah, size_t rw, size_t rh,
                       size_t ow, size_t oh,
@@ -53,6 +55,22 @@ uint32_t squeeze_tile(uint32_t horizontal,
                       const int32_t *next, size_t next_len,
                       const int32_t *prev, size_t prev_len,
                       int32_t *out, size_t out_len);
+
+/* The listing of a record as text: the plan's steps, the channels that it
+   leaves and how many of them are coarse, or "refused" and the number. Gives the
+   listing's length in bytes, over the front of `text`; or 0, and writes nothing,
+   where `text` is shorter. 8,192 bytes hold every listing. */
+size_t squeeze_listing(const uint8_t *record, size_t record_len,
+                       uint8_t *text, size_t text_len);
+
+/* The rectangle of a channel at grid position (gx, gy). Kinds: 0 none, 1 LF,
+   2 HF. group: 128, 256, 512 or 1,024. rect: four numbers, x, y, width, height;
+   written. A meta channel has both shifts 255. */
+uint32_t squeeze_grid_rect(uint16_t width, uint16_t height,
+                           uint8_t hshift, uint8_t vshift,
+                           uint8_t output, uint8_t stored, uint32_t group,
+                           uint16_t gx, uint16_t gy,
+                           uint32_t *rect, size_t rect_len);
 
 #ifdef __cplusplus
 }

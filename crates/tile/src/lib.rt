@@ -106,8 +106,7 @@ fn unsqueeze<'a>(
 // output, horizontal unless the number is 0. `next` and `prev` are the next
 // average line and the previous output line, or empty. The answer is 0, or the
 // refusal's number.
-#[no_mangle]
-pub extern "C" fn squeeze_tile<'a>(
+pub fn squeeze_tile<'a>(
     horizontal: u32,
     aw: usize,
     ah: usize,
