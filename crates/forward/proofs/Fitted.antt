@@ -7,11 +7,12 @@ use borrow.Author.Tests.{eqb-true, eq-eqb, le-leb}
 use lib.Dec.{eqb, leb}
 use lib.IntN.{ℤ}
 use lib.ListN.{length}
+use Rattle.numbers.specs.Numbers.{maxSide}
 use Rattle.line.specs.Uncut.{table}
 use Rattle.line.specs.Forward as F
 use Rattle.line.specs.Forward.{averageCount, residualCount}
 use Rattle.forward.specs.Rows.{wide, high, averageEntry, residualEntry}
-use Rattle.forward.specs.Into.{maxSide, slicesFit, averagesInto, residualsInto}
+use Rattle.forward.specs.Into.{slicesFit, averagesInto, residualsInto}
 use Rattle.forward.proofs.Filled.{area}
 
 -- slices that fit, and the rows of the output

@@ -6,12 +6,10 @@ use Prim.Native.Nat.{ℕ, _*_}
 use lib.Dec.{eqb, leb}
 use lib.IntN.{ℤ}
 use lib.ListN.{length}
+use Rattle.numbers.specs.Numbers.{maxSide}
 use Rattle.line.specs.Forward.{averageCount, residualCount, averagesOf, residualsOf}
 
 -- "Sides are at most 65,535", so that the lengths can be told
-abbrev pub maxSide : ℕ
-maxSide = 65_535
-
 unfoldable pub slicesFit : ℕ → ℕ → ℕ → List ℤ → List ℤ → Bool
 slicesFit lines size count xs out =
     (leb lines maxSide && leb size maxSide) && (eqb (length xs) (lines * size) && eqb (length out) (lines * count))

@@ -10,9 +10,7 @@ ghost use Rattle.line.specs.Uncut.{table};
 ghost use Rattle.line.specs.Forward.{averageCount, residualCount, averageAt, nextAt, prevAt, residualAt, lineIn};
 ghost use Rattle.forward.specs.Into.{slicesFit, averagesInto, residualsInto};
 ghost use Rattle.forward.specs.Rows.{wide, high, averageEntry, residualEntry};
-
-// No side of a channel is longer.
-const MAX_SIDE: usize = 65_535;
+use numbers::MAX_SIDE;
 
 fn slices_fit(lines: usize, size: usize, count: usize, xs: &[i32], out: &[i32]) -> bool
     requires { ⌜ count ≤ size ⌝ }

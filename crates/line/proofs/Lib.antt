@@ -5,5 +5,4 @@ pub mod Outputs
 pub mod Plain
 pub mod Alone
 pub mod ThereAndBack
-pub mod LineRows
 pub mod Sampled

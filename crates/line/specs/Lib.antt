@@ -2,4 +2,3 @@ pub mod Line
 pub mod Uncut
 pub mod Forward
 pub mod Plain
-pub mod Table

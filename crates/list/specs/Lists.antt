@@ -10,15 +10,12 @@ use Rattle.list.specs.declared.ChannelList.{ChannelList}
 use Rattle.list.specs.declared.Step.{Step}
 use Rattle.list.specs.Tables.{table, padded, map}
 
--- "The list carries its own limits, 256 channels and 64 steps"; question 5 has the samples'
+-- "The list carries its own limits, 256 channels and 64 steps"
 abbrev pub maxChannels : ℕ
 maxChannels = 256
 
 abbrev pub maxSteps : ℕ
 maxSteps = 64
-
-abbrev pub maxSamples : ℕ
-maxSamples = 16_777_216
 
 -- ---- flat arrays
 -- entry k of the arrays

@@ -5,13 +5,14 @@ use mathlib.Core.List.{List, [], _∷_}
 use Prim.Native.Nat.{ℕ, _+_, _-_}
 use lib.Dec.{eqb, leb, ltb}
 use lib.ListN.{length, getD}
+use Rattle.numbers.specs.Numbers.{maxSamples, refusedCount, refusedForm, refusedSamples, refusedRange, refusedKinds, refusedPlace, refusedEmpty, refusedRoom}
 use Rattle.channel.specs.declared.Channel.{Channel}
 use Rattle.channel.specs.Channel.{isMeta, shiftsAllowed}
 use Rattle.list.specs.declared.ChannelList.{ChannelList}
 use Rattle.list.specs.declared.Step.{Step}
 use Rattle.list.specs.declared.Stepped.{Stepped}
 use Rattle.list.specs.Tables.{all}
-use Rattle.list.specs.Lists.{maxChannels, maxSamples, channels, packed, range, raised, stepped, total}
+use Rattle.list.specs.Lists.{maxChannels, channels, packed, range, raised, stepped, total}
 
 -- a question: its answer, the refusal's number where it is "no", and what is asked next
 abbrev pub ask : Bool → ℕ → ℕ → ℕ
@@ -37,9 +38,9 @@ totalAllowed cs = leb (total cs) maxSamples
 
 unfoldable pub judgeList : ChannelList → ℕ
 judgeList l =
-    ask (countAllowed (l .count)) 3
-    (ask (channelsAllowed (channels l)) 4
-    (ask (totalAllowed (channels l)) 5 0))
+    ask (countAllowed (l .count)) refusedCount
+    (ask (channelsAllowed (channels l)) refusedForm
+    (ask (totalAllowed (channels l)) refusedSamples 0))
 
 -- ---- a step
 -- the channel at k; past the list a channel of zeros
@@ -74,11 +75,11 @@ roomLeft s cs = leb (length cs + s .number) maxChannels && all (shiftsKept (s .h
 
 unfoldable pub judgeStep : Step → List Channel → ℕ
 judgeStep s cs =
-    ask (rangeAllowed s cs) 6
-    (ask (kindsAlike s cs) 7
-    (ask (placeAllowed s cs) 8
-    (ask (all hasSides (range s cs)) 9
-    (ask (roomLeft s cs) 10 0))))
+    ask (rangeAllowed s cs) refusedRange
+    (ask (kindsAlike s cs) refusedKinds
+    (ask (placeAllowed s cs) refusedPlace
+    (ask (all hasSides (range s cs)) refusedEmpty
+    (ask (roomLeft s cs) refusedRoom 0))))
 
 -- ---- "A step taken by a list gives the next list": questions 3 to 5 of the list, then 7 to 11; a refusal leaves the list as it came
 unfoldable pub stepAnswer : Step → ChannelList → ℕ

@@ -14,6 +14,14 @@ ghost use Rattle.list.specs.Lists as Lists;
 ghost use Rattle.list.specs.Questions as Questions;
 ghost use Rattle.list.specs.Accepted.{StepAccepted};
 use channel::Channel;
+use numbers::REFUSED_COUNT;
+use numbers::REFUSED_EMPTY;
+use numbers::REFUSED_FORM;
+use numbers::REFUSED_KINDS;
+use numbers::REFUSED_PLACE;
+use numbers::REFUSED_RANGE;
+use numbers::REFUSED_ROOM;
+use numbers::REFUSED_SAMPLES;
 
 pub struct ChannelList {
     pub count: usize,
@@ -128,7 +136,7 @@ impl ChannelList {
 
     pub const MAX_STEPS: usize = 64;
 
-    pub const MAX_SAMPLES: u64 = 16_777_216;
+    pub const MAX_SAMPLES: u64 = numbers::MAX_SAMPLES as u64;
 
     // The list without a channel.
     pub fn empty() -> Self
@@ -210,13 +218,13 @@ impl ChannelList {
     {
         let count = self.count;
         if !((1 <= count) & (count <= ChannelList::MAX_CHANNELS)) {
-            return 3;
+            return REFUSED_COUNT;
         }
         if !self.channels_allowed() {
-            return 4;
+            return REFUSED_FORM;
         }
         if ChannelList::MAX_SAMPLES < self.total() {
-            return 5;
+            return REFUSED_SAMPLES;
         }
         0
     }
@@ -291,19 +299,19 @@ impl ChannelList {
         ensures { λ r. ⌜ r ≡ Questions.judgeStep step (Lists.channels self) ⌝ }
     {
         if !self.range_allowed(step) {
-            return 6;
+            return REFUSED_RANGE;
         }
         if !self.kinds_alike(step) {
-            return 7;
+            return REFUSED_KINDS;
         }
         if !self.place_allowed(step) {
-            return 8;
+            return REFUSED_PLACE;
         }
         if !self.range_has_sides(step) {
-            return 9;
+            return REFUSED_EMPTY;
         }
         if !self.room_left(step) {
-            return 10;
+            return REFUSED_ROOM;
         }
         0
     }

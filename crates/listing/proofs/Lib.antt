@@ -2,4 +2,3 @@ pub mod Puts
 pub mod Digits
 pub mod Held
 pub mod Outcomes
-pub mod Rows

@@ -1,4 +1,3 @@
 pub mod Text
 pub mod Listing
 pub mod Putting
-pub mod Table

@@ -5,6 +5,7 @@ use mathlib.Core.List.{List, _++_}
 use Prim.Native.Nat.{ℕ}
 use lib.Dec.{eqb, leb}
 use lib.ListN.{length, drop}
+use Rattle.numbers.specs.Numbers.{refusedLength}
 use Rattle.channel.specs.declared.Channel.{Channel}
 use Rattle.list.specs.declared.Step.{Step}
 use Rattle.plan.specs.Default.{stoppingSide, coarseCount}
@@ -36,7 +37,7 @@ unfoldable pub listed : List ℕ → List ℕ → Listed
 listed bytes text =
     cond (leb (length (listing bytes)) (length text))
     (record { answer = 0; length = length (listing bytes) })
-    (record { answer = 12; length = 0 })
+    (record { answer = refusedLength; length = 0 })
 
 unfoldable pub textAfter : List ℕ → List ℕ → List ℕ
 textAfter bytes text =

@@ -13,6 +13,7 @@ ghost use Rattle.listing.specs.Listing as Spec;
 use channel::Channel;
 use list::ChannelList;
 use list::Step;
+use numbers::REFUSED_LENGTH;
 use plan::Steps;
 
 // The answer 0 with the text's length, or 12 where the slice has no room.
@@ -23,9 +24,6 @@ pub struct Listed {
 
 // Room for any listing: at most 64 step lines and 256 channel lines.
 pub const LISTING_ROOM: usize = 8192;
-
-// The refusal of question 14.
-const REFUSED_SLICE: u32 = 12;
 
 // `word` into `text` from `at` on. Here and below the result is where the new
 // part ends.
@@ -211,17 +209,6 @@ fn put_plan(steps: Steps, list: ChannelList, text: &mut [u8]) -> usize
     put_numbered(b"coarse ", plan::coarse_count(list), end, text)
 }
 
-// The steps of an accepted plan, the default plan by its steps.
-fn meant_steps(list: ChannelList, steps: Steps) -> Steps
-    requires { ⌜ judgePlan list steps ≡ 0 ⌝ }
-    ensures { λ r. ⌜ (StepsSpec.steps r ≡ meant (StepsSpec.steps steps) (channels list)) × (r .count ≤ maxSteps) ⌝ }
-{
-    if steps.count != 0 {
-        return steps;
-    }
-    plan::default_squeeze(list).steps
-}
-
 fn put_listing(bytes: &[u8], text: &mut [u8]) -> usize
     requires { ⌜ Putting.listingRoom ≤ length (now text) ⌝ }
     ensures { λ r. ⌜ Put (Spec.listing (now (bytes .entry))) 0 (now (text .entry)) (now (text .exit)) r ⌝ }
@@ -231,7 +218,7 @@ fn put_listing(bytes: &[u8], text: &mut [u8]) -> usize
         return put_numbered(b"refused ", read.answer as usize, 0, text);
     }
     let reached = plan::rewrite(read.list, read.steps).list;
-    put_plan(meant_steps(read.list, read.steps), reached, text)
+    put_plan(plan::meant_steps(read.list, read.steps), reached, text)
 }
 
 // The listing of the record over the front of `text`; the rest of it stays. A
@@ -244,7 +231,7 @@ pub fn list_record(bytes: &[u8], text: &mut [u8]) -> Listed
     let length = put_listing(bytes, &mut page);
     if text.len() < length {
         return Listed {
-            answer: REFUSED_SLICE,
+            answer: REFUSED_LENGTH,
             length: 0,
         };
     }

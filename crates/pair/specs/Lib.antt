@@ -1,3 +1,2 @@
 pub mod Pair
 pub mod Bijection
-pub mod Table

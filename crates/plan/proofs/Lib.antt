@@ -10,5 +10,5 @@ pub mod Form
 pub mod Runs
 pub mod Reached
 pub mod Answers
-pub mod Rows
+pub mod Judged
 pub mod AsStandard

@@ -1,6 +1,5 @@
 pub mod Steps
 pub mod Default
 pub mod Plans
-pub mod Table
 pub mod Adding
 pub mod Standard

@@ -4,6 +4,7 @@ use mathlib.Core.List.{List, [], _∷_}
 use Prim.Native.Nat.{ℕ}
 use lib.Dec.{eqb, leb, ltb}
 use lib.ListN.{length}
+use Rattle.numbers.specs.Numbers.{refusedCount, refusedForm, refusedSamples, refusedDefault}
 use Rattle.channel.specs.declared.Channel.{Channel}
 use Rattle.list.specs.declared.ChannelList.{ChannelList}
 use Rattle.list.specs.declared.Step.{Step}
@@ -43,13 +44,13 @@ meantAllowed (s ∷ ss) cs = true
 -- 3 to 5 of a list and a plan
 unfoldable pub judgeForm : ChannelList → Steps → ℕ
 judgeForm l s =
-    ask (countAllowed (l .count) && leb (s .count) maxSteps) 3
-    (ask (channelsAllowed (channels l) && all flagsAllowed (allFlags s)) 4
-    (ask (totalAllowed (channels l)) 5 0))
+    ask (countAllowed (l .count) && leb (s .count) maxSteps) refusedCount
+    (ask (channelsAllowed (channels l) && all flagsAllowed (allFlags s)) refusedForm
+    (ask (totalAllowed (channels l)) refusedSamples 0))
 
 -- 6 to 11 of steps on a list
 unfoldable pub judgeMeant : List Step → List Channel → ℕ
-judgeMeant ss cs = ask (meantAllowed ss cs) 11 (judgeSteps (meant ss cs) cs)
+judgeMeant ss cs = ask (meantAllowed ss cs) refusedDefault (judgeSteps (meant ss cs) cs)
 
 unfoldable pub judgePlan : ChannelList → Steps → ℕ
 judgePlan l s = ask (eqb (judgeForm l s) 0) (judgeForm l s) (judgeMeant (steps s) (channels l))
@@ -68,10 +69,14 @@ rewritten l s = outcome (judgePlan l s) l (steppedAll (meant (steps s) (channels
 
 -- the default plan of a list that questions 3 to 6 accept, or the refusal's number without a step
 unfoldable pub judgeDefault : ChannelList → ℕ
-judgeDefault l = ask (eqb (judgeList l) 0) (judgeList l) (ask (hasOther (channels l)) 11 0)
+judgeDefault l = ask (eqb (judgeList l) 0) (judgeList l) (ask (hasOther (channels l)) refusedDefault 0)
 
 unfoldable pub planned : ChannelList → Planned
 planned l =
     cond (eqb (judgeDefault l) 0)
     (record { answer = 0; steps = S.packed (defaultSteps stoppingSide (channels l)) })
     (record { answer = judgeDefault l; steps = S.packed [] })
+
+-- the steps of a plan as they came, or the default plan's where there are none
+unfoldable pub meantSteps : ChannelList → Steps → Steps
+meantSteps l s = cond (eqb (s .count) 0) (planned l .steps) s

@@ -16,13 +16,9 @@ use channel::Channel;
 use list::ChannelList;
 use list::Step;
 use list::Stepped;
-
-// The refusals of questions 3, 4 and 6.
-const REFUSED_NUMBERS: u32 = 3;
-
-const REFUSED_FORM: u32 = 4;
-
-const REFUSED_DEFAULT: u32 = 11;
+use numbers::REFUSED_COUNT;
+use numbers::REFUSED_DEFAULT;
+use numbers::REFUSED_FORM;
 
 pub struct Steps {
     pub count: usize,
@@ -38,7 +34,7 @@ pub struct Planned {
 }
 
 // "flags 1 (bit 0 horizontal, bit 1 in place)".
-fn flags_of(step: Step) -> u8
+pub fn flags_of(step: Step) -> u8
     ensures { λ r. ⌜ r ≡ Spec.flagsOf step ⌝ }
 {
     (step.horizontal as u8) + 2 * (step.inplace as u8)
@@ -50,7 +46,7 @@ impl Steps {
     pub const STOPPING_SIDE: u16 = 8;
 
     // The flags of a step that is horizontal and in place.
-    const ALL_FLAGS: u8 = 3;
+    pub const ALL_FLAGS: u8 = 3;
 
     pub fn empty() -> Self
         ensures { λ r. ⌜ r ≡ Spec.packed [] ⌝ }
@@ -252,6 +248,17 @@ pub fn default_squeeze(list: ChannelList) -> Planned
     }
 }
 
+// The steps that are meant: "An empty list of steps means the default plan."
+pub fn meant_steps(list: ChannelList, steps: Steps) -> Steps
+    ensures { λ r. ⌜ r ≡ Plans.meantSteps list steps ⌝ }
+    ensures room { λ r. ⌜ (steps .count ≤ maxSteps → r .count ≤ maxSteps) ⌝ }
+{
+    if steps.count != 0 {
+        return steps;
+    }
+    default_squeeze(list).steps
+}
+
 fn is_coarse(channel: Channel) -> bool
     ensures { λ r. ⌜ r ≡ Default.isCoarse Default.stoppingSide channel ⌝ }
 {
@@ -291,8 +298,8 @@ fn judge_form(list: ChannelList, steps: Steps) -> u32
     ensures { λ r. ⌜ r ≡ Plans.judgeForm list steps ⌝ }
 {
     let answer = list.judge();
-    if (answer == REFUSED_NUMBERS) | !(steps.count <= ChannelList::MAX_STEPS) {
-        return REFUSED_NUMBERS;
+    if (answer == REFUSED_COUNT) | !(steps.count <= ChannelList::MAX_STEPS) {
+        return REFUSED_COUNT;
     }
     if (answer == REFUSED_FORM) | !flags_allowed(steps) {
         return REFUSED_FORM;

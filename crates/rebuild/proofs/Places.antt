@@ -8,12 +8,13 @@ use native.Mathlib.Omega.{arith}
 use lib.IntN.{ℤ}
 use lib.ListN.{length, take, drop, length-append}
 use lib.Seq.{take-at, take-add, length-take-le}
+use Rattle.numbers.specs.Numbers.{maxSamples}
 use Rattle.channel.specs.declared.Channel.{Channel}
 use Rattle.list.specs.declared.ChannelList.{ChannelList}
 use Rattle.list.specs.declared.Step.{Step}
 use Rattle.list.specs.Tables.{map}
 use Rattle.list.specs.Lists as Lists
-use Rattle.list.specs.Lists.{maxSamples, channels, average, residual, before, range, after, stepped, total}
+use Rattle.list.specs.Lists.{channels, average, residual, before, range, after, stepped, total}
 use Rattle.list.proofs.Maps.{map-length}
 use Rattle.list.proofs.Parts.{parts-whole}
 use Rattle.list.proofs.Entries.{length-range, stepped-length}

@@ -8,10 +8,11 @@ use native.Mathlib.Omega.{arith}
 use lib.IntN.{ℤ}
 use lib.ListN.{length, take, drop, length-append, length-drop, take-append-drop}
 use lib.Seq.{take-at, drop-at, drop-drop, length-take-le}
+use Rattle.numbers.specs.Numbers.{maxSamples}
 use Rattle.channel.specs.declared.Channel.{Channel}
 use Rattle.channel.specs.Channel.{samples}
 use Rattle.list.specs.Tables.{table, map}
-use Rattle.list.specs.Lists.{maxSamples, average, residual, total}
+use Rattle.list.specs.Lists.{average, residual, total}
 use Rattle.list.proofs.Tables.{table-rest}
 use Rattle.list.proofs.Totals.{parts-samples}
 use Rattle.runs.specs.Parts.{parts, joined}

@@ -6,11 +6,12 @@ use Prim.Native.Nat.{ℕ, _+_, _<_, _≤_}
 use borrow.Author.Tests.{eq-eqb, leb-true}
 use lib.IntN.{ℤ}
 use lib.ListN.{length}
+use Rattle.numbers.specs.Numbers.{maxSamples}
 use Rattle.channel.specs.declared.Channel.{Channel}
 use Rattle.list.specs.declared.ChannelList.{ChannelList}
 use Rattle.list.specs.declared.Step.{Step}
 use Rattle.list.specs.declared.Stepped.{Stepped}
-use Rattle.list.specs.Lists.{maxSamples, channels, packed, stepped, total}
+use Rattle.list.specs.Lists.{channels, packed, stepped, total}
 use Rattle.list.specs.Questions as Questions
 use Rattle.list.specs.Questions.{judgeList, judgeStep, taken}
 use Rattle.list.specs.Accepted.{Accepted, StepAccepted}

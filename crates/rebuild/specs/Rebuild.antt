@@ -6,6 +6,7 @@ use Prim.Native.Nat.{ℕ}
 use lib.Dec.{eqb}
 use lib.IntN.{ℤ}
 use lib.ListN.{length}
+use Rattle.numbers.specs.Numbers.{refusedLength}
 use Rattle.list.specs.declared.ChannelList.{ChannelList}
 use Rattle.list.specs.Lists.{channels, total}
 use Rattle.list.specs.Questions.{ask}
@@ -25,7 +26,7 @@ slicesFit l pyramid picture work = fits l pyramid && (fits l picture && fits l w
 -- questions 3 to 11 of list and steps, then 14
 unfoldable pub answerOf : ChannelList → Steps → List ℤ → List ℤ → List ℤ → ℕ
 answerOf l s pyramid picture work =
-    ask (eqb (judgePlan l s) 0) (judgePlan l s) (ask (slicesFit l pyramid picture work) 12 0)
+    ask (eqb (judgePlan l s) 0) (judgePlan l s) (ask (slicesFit l pyramid picture work) refusedLength 0)
 
 -- the lent slices afterwards: "lent slices keep their contents" where the call is refused
 unfoldable pub pictureAfter : ChannelList → Steps → List ℤ → List ℤ → List ℤ → List ℤ

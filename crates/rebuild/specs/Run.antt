@@ -5,12 +5,13 @@ use mathlib.Core.List.{List}
 use Prim.Native.Nat.{ℕ, _+_, _-_, _≤_}
 use lib.IntN.{ℤ}
 use lib.ListN.{length, drop}
+use Rattle.numbers.specs.Numbers.{maxSamples}
 use Rattle.channel.specs.declared.Channel.{Channel}
 use Rattle.channel.specs.Channel.{samples}
 use Rattle.list.specs.declared.ChannelList.{ChannelList}
 use Rattle.list.specs.declared.Step.{Step}
 use Rattle.list.specs.Tables.{table, map}
-use Rattle.list.specs.Lists.{maxSamples, maxSteps, channels, average, residual, range, stepped, total}
+use Rattle.list.specs.Lists.{maxSteps, channels, average, residual, range, stepped, total}
 use Rattle.list.specs.Questions.{judgeList}
 use Rattle.plan.specs.declared.Steps.{Steps}
 use Rattle.plan.specs.Steps.{stepAt}

@@ -7,8 +7,9 @@ ghost use mathlib.Core.Bool.{cond};
 ghost use mathlib.Core.List.{_++_};
 ghost use Prim.Native.Nat.{_+_, _≤_};
 ghost use lib.ListN.{length, take, drop};
+ghost use Rattle.numbers.specs.Numbers.{maxSamples};
 ghost use Rattle.channel.specs.Channel.{samples};
-ghost use Rattle.list.specs.Lists.{maxSamples, maxSteps, channels, average, residual, range, total};
+ghost use Rattle.list.specs.Lists.{maxSteps, channels, average, residual, range, total};
 ghost use Rattle.tile.specs.Cut as Cut;
 ghost use Rattle.plan.specs.Steps as Spec;
 ghost use Rattle.plan.specs.Plans as Plans;
@@ -18,10 +19,9 @@ ghost use Rattle.rebuild.specs.Run.{rangeFrom, stepsFrom, ChannelFits, R
 use channel::Channel;
 use list::ChannelList;
 use list::Step;
+use numbers::REFUSED_LENGTH;
 use plan::Steps;
 use tile::Sides;
-
-const REFUSED_LENGTHS: u32 = 12;
 
 // The samples along a channel's lines, and the lines.
 fn along(c: Channel, horizontal: bool) -> usize
@@ -219,7 +219,7 @@ pub fn rebuild(
     }
     let total = list.total() as usize;
     if !((pyramid.len() == total) & ((picture.len() == total) & (work.len() == total))) {
-        return REFUSED_LENGTHS;
+        return REFUSED_LENGTH;
     }
     buffer::copy(pyramid, picture);
     rebuild_from(list, meant(list, steps), 0, picture, work);

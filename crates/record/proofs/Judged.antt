@@ -1,4 +1,4 @@
--- The answer to questions 3 to 11 (`judgePlan` of Rattle.plan.specs.Plans): where the code finds it, and what the answer 0 says. Assumes nothing.
+-- A list and steps that questions 3 to 11 accept are accepted with their unused entries 0 too. Rests on what crate plan says of the answer 0.
 use mathlib.Core.Path.{_≡_, refl, ap, _∙_}
 use mathlib.Core.Bool.{Bool, true, false, and-eq-true-iff}
 use mathlib.Core.List.{List}
@@ -27,16 +27,8 @@ use Rattle.plan.specs.Steps.{flagsOf, flagsAllowed}
 use Rattle.plan.specs.Plans as P
 use Rattle.plan.specs.Plans.{judgeForm, judgeMeant, judgePlan, rewritten}
 use Rattle.plan.proofs.Packed.{packed-count, steps-packed}
-use Rattle.plan.proofs.Answers.{form-accepted}
+use Rattle.plan.proofs.Judged.{judged-parts, judged-list, steps-few}
 use Rattle.record.proofs.Flags.{flags-allowed}
-
--- two rows of questions, the second put where the first refuses nothing
-pub both-passed : (first next : ℕ) → ask (eqb first 0) first next ≡ 0 → (first ≡ 0) × (next ≡ 0)
-both-passed first next h = go (eqb first 0) refl h
-  where
-    go : (b : Bool) → eqb first 0 ≡ b → ask b first next ≡ 0 → (first ≡ 0) × (next ≡ 0)
-    go true e h = (eqb-true first 0 e, h)
-    go false e h = absurd (eqb-false first 0 e h)
 
 all-entries {ℓ} : {A : Type ℓ} (p : A → Bool) (f : ℕ → A) (n : ℕ) → ((i : ℕ) → i < n → p (f i) ≡ true) → (k m : ℕ) → k + m ≤ n → all p (table f k m) ≡ true
 all-entries p f n h k zero l = refl
@@ -53,45 +45,23 @@ flags-fit ss = all-entries flagsAllowed _ maxSteps entry 0 (min (length ss) maxS
     entry : (i : ℕ) → i < maxSteps → flagsAllowed (getD (padded maxSteps (map flagsOf ss)) i 0) ≡ true
     entry i h = rw (padded-at maxSteps (map flagsOf ss) i h, map-default flagsOf ss i none) (flags-allowed (getD ss i none))
 
-module _ (l : ChannelList) (s : Steps) where
-  pub plan-answer : (r : Stepped) → r ≡ rewritten l s → r .answer ≡ judgePlan l s
-  unfolding P.rewritten P.outcome
-  plan-answer r e = ap (λ (x : Stepped). x .answer) e ∙ go (eqb (judgePlan l s) 0) refl
-    where
-      go : (b : Bool) → eqb (judgePlan l s) 0 ≡ b → rewritten l s .answer ≡ judgePlan l s
-      go true t = rw (t, eqb-true (judgePlan l s) 0 t)
-      go false t = rw t
-
-  module _ (h : judgePlan l s ≡ 0) where
-    pub judged-parts : (judgeForm l s ≡ 0) × (judgeMeant (S.steps s) (channels l) ≡ 0)
-    unfolding P.judgePlan
-    judged-parts = both-passed (judgeForm l s) _ h
-
-    pub judged-list : judgeList l ≡ 0
-    judged-list = form-accepted l s _ refl (judged-parts .0) .0
-
-    pub judged-counts : (l .count ≤ maxChannels) × (s .count ≤ maxSteps)
-    judged-counts = (count-inside l judged-list .1, form-accepted l s _ refl (judged-parts .0) .1)
-
-    pub steps-few : length (S.steps s) ≤ maxSteps
-    unfolding S.steps
-    steps-few = omega (arith, table-length (S.stepAt s) 0 (min (s .count) maxSteps))
-
-    -- the same list and steps, unused entries 0
-    pub judged-packed : judgePlan (Lists.packed (channels l)) (S.packed (S.steps s)) ≡ 0
-    unfolding P.judgePlan P.judgeForm Q.judgeList
-    judged-packed =
-        let a = list-accepted l judged-list in
-        let p₃ = passed (countAllowed (Lists.packed (channels l) .count)) _ _ (packed-accepted (channels l) a) in
-        let p₄ = passed (channelsAllowed (channels (Lists.packed (channels l)))) _ _ (p₃ .1) in
-        let p₅ = passed (totalAllowed (channels (Lists.packed (channels l)))) _ _ (p₄ .1) in
-        let n : S.packed (S.steps s) .count ≤ maxSteps = omega (arith, steps-few, packed-count (S.packed (S.steps s)) (S.steps s) refl) in
-        rw (
-          p₃ .0,
-          le-leb (S.packed (S.steps s) .count) maxSteps n,
-          p₄ .0,
-          flags-fit (S.steps s),
-          p₅ .0,
-          steps-packed (S.steps s) steps-few,
-          channels-packed (channels l) (a .few),
-        ) (judged-parts .1)
+-- the same list and steps, unused entries 0
+module _ (l : ChannelList) (s : Steps) (h : judgePlan l s ≡ 0) where
+  pub judged-packed : judgePlan (Lists.packed (channels l)) (S.packed (S.steps s)) ≡ 0
+  unfolding P.judgePlan P.judgeForm Q.judgeList
+  judged-packed =
+      let a = list-accepted l (judged-list l s h) in
+      let few = steps-few l s h in
+      let p₃ = passed (countAllowed (Lists.packed (channels l) .count)) _ _ (packed-accepted (channels l) a) in
+      let p₄ = passed (channelsAllowed (channels (Lists.packed (channels l)))) _ _ (p₃ .1) in
+      let p₅ = passed (totalAllowed (channels (Lists.packed (channels l)))) _ _ (p₄ .1) in
+      let n : S.packed (S.steps s) .count ≤ maxSteps = omega (arith, few, packed-count (S.packed (S.steps s)) (S.steps s) refl) in
+      rw (
+        p₃ .0,
+        le-leb (S.packed (S.steps s) .count) maxSteps n,
+        p₄ .0,
+        flags-fit (S.steps s),
+        p₅ .0,
+        steps-packed (S.steps s) few,
+        channels-packed (channels l) (a .few),
+      ) (judged-parts l s h .1)

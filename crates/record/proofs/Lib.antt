@@ -5,6 +5,7 @@ pub mod Held
 pub mod Joined
 pub mod Placed
 pub mod Judged
+pub mod Readings
 pub mod Outcomes
 pub mod Words
 pub mod ReadWritten

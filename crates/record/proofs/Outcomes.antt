@@ -22,7 +22,7 @@ use Rattle.record.specs.declared.Record.{Record}
 use Rattle.record.specs.Bytes.{channelSize, stepSize, channelField, stepField, channelFields, stepFields, recordOf, placed}
 use Rattle.record.specs.Reading.{Form, refused, asked, isStep, finished, answerOf, readFields, formOf}
 use Rattle.record.specs.Records.{packedForm, readAnswer, readOf, recordFor, writeAnswer, writtenOf, writtenBytes}
-use Rattle.record.proofs.Judged.{plan-answer, judged-counts}
+use Rattle.plan.proofs.Judged.{plan-answer, judged-counts}
 use Rattle.record.proofs.Joined.{channel-size, step-size, joined-length}
 use Rattle.record.proofs.Placed.{placed-more}
 

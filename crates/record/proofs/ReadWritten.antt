@@ -31,7 +31,9 @@ use Rattle.record.proofs.Flags.{flags-allowed, flags-back}
 use Rattle.record.proofs.Words.{word-back}
 use Rattle.record.proofs.Pushed.{metas-pushed}
 use Rattle.record.proofs.Joined.{channel-size, step-size}
-use Rattle.record.proofs.Judged.{both-passed, judged-parts, judged-list, steps-few, judged-packed}
+use Rattle.plan.proofs.Runs.{none-refused}
+use Rattle.plan.proofs.Judged.{judged-parts, judged-list, steps-few}
+use Rattle.record.proofs.Judged.{judged-packed}
 use Rattle.record.proofs.Outcomes.{written-length, written-bytes}
 
 -- ---- one field, and `rest` after it
@@ -171,7 +173,7 @@ each-entry P f h k (suc n) = (h k, each-entry P f h (suc k) n)
 steps-fit : (ss : List Step) (cs : List Channel) → judgeSteps ss cs ≡ 0 → Each StepFits ss
 steps-fit [] cs h = tt
 steps-fit (s ∷ ss) cs h =
-    let b = both-passed (judgeStep s cs) _ h in
+    let b = none-refused (judgeStep s cs) _ h in
     let a = step-accepted s cs (b .0) in
     ((omega (arith, a .inside, a .room), omega (arith, a .inside, a .room)), steps-fit ss (stepped s cs) (b .1))
 

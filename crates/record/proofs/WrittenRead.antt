@@ -24,7 +24,8 @@ use Rattle.record.specs.Records.{readAnswer, readOf, recordFor, writeAns
 use Rattle.record.specs.Laws.{AreBytes, WrittenRead, WrittenReadLaw, OneRecord}
 use Rattle.record.proofs.Fields.{is-step, is-channel}
 use Rattle.record.proofs.Words.{step-bytes, channel-bytes}
-use Rattle.record.proofs.Judged.{both-passed, judged-counts}
+use Rattle.plan.proofs.Runs.{none-refused}
+use Rattle.plan.proofs.Judged.{judged-counts}
 use Rattle.record.proofs.Pushed.{list-count}
 use Rattle.record.proofs.Joined.{joined-snoc}
 use Rattle.record.proofs.Outcomes.{write-fits, written-length, written-bytes}
@@ -103,7 +104,7 @@ form-back bytes b = fields-give (length bytes) bytes [] [] b (omega arith)
 module _ (bytes : List ℕ) (b : AreBytes bytes) (h : readAnswer bytes ≡ 0) where
   parts : (formOf bytes .answer ≡ 0) × (judgePlan (Lists.packed (formOf bytes .channels)) (S.packed (formOf bytes .steps)) ≡ 0)
   unfolding readAnswer
-  parts = both-passed (formOf bytes .answer) _ h
+  parts = none-refused (formOf bytes .answer) _ h
 
   whole : readOf bytes ≡ record { answer = 0; list = Lists.packed (formOf bytes .channels); steps = S.packed (formOf bytes .steps) }
   unfolding readOf

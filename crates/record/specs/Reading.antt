@@ -5,6 +5,7 @@ use mathlib.Core.List.{List, [], _∷_, _++_}
 use Prim.Native.Nat.{ℕ, zero, suc, _+_, _/_, _%_}
 use lib.Dec.{eqb, leb, ltb}
 use lib.ListN.{length, getD, drop}
+use Rattle.numbers.specs.Numbers.{refusedOutside, refusedField, refusedCount, refusedForm}
 use Rattle.channel.specs.declared.Channel.{Channel}
 use Rattle.channel.specs.Channel.{isMeta, shiftsAllowed}
 use Rattle.list.specs.declared.Step.{Step}
@@ -77,18 +78,18 @@ channelAllowed c metas = shiftsAllowed c && (not (isMeta c) || metas)
 -- 3 and 4 of a channel and of a step, with "a field too many"
 unfoldable pub judgeChannelField : List ℕ → ℕ → Bool → ℕ
 judgeChannelField bytes channels metas =
-    ask (ltb channels maxChannels) 3
-    (ask (channelAllowed (channelOf bytes) metas) 4 0)
+    ask (ltb channels maxChannels) refusedCount
+    (ask (channelAllowed (channelOf bytes) metas) refusedForm 0)
 
 unfoldable pub judgeStepField : List ℕ → ℕ → ℕ
 judgeStepField bytes steps =
-    ask (ltb steps maxSteps) 3
-    (ask (flagsAllowed (flagsAt bytes)) 4 0)
+    ask (ltb steps maxSteps) refusedCount
+    (ask (flagsAllowed (flagsAt bytes)) refusedForm 0)
 
 unfoldable pub judgeField : List ℕ → ℕ → Bool → ℕ → ℕ
 judgeField bytes channels metas steps =
-    ask (fieldInside bytes) 1
-    (ask (isChannel bytes steps || isStep bytes) 2
+    ask (fieldInside bytes) refusedOutside
+    (ask (isChannel bytes steps || isStep bytes) refusedField
     (cond (isStep bytes) (judgeStepField bytes steps) (judgeChannelField bytes channels metas)))
 
 -- ---- the fields

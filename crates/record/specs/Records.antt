@@ -5,6 +5,7 @@ use mathlib.Core.List.{List, [], _++_}
 use Prim.Native.Nat.{ℕ}
 use lib.Dec.{eqb, leb}
 use lib.ListN.{length, drop}
+use Rattle.numbers.specs.Numbers.{refusedLength}
 use Rattle.list.specs.declared.ChannelList.{ChannelList}
 use Rattle.list.specs.Lists as Lists
 use Rattle.list.specs.Lists.{channels}
@@ -42,7 +43,7 @@ recordFor l s = recordOf (channels l) (steps s)
 unfoldable pub writeAnswer : ChannelList → Steps → List ℕ → ℕ
 writeAnswer l s out =
     ask (eqb (judgePlan l s) 0) (judgePlan l s)
-    (ask (leb (length (recordFor l s)) (length out)) 12 0)
+    (ask (leb (length (recordFor l s)) (length out)) refusedLength 0)
 
 -- the answer with the record's length, or the refusal's number and 0
 unfoldable pub writtenOf : ChannelList → Steps → List ℕ → Written

@@ -14,6 +14,11 @@ ghost use Rattle.record.specs.Records as Spec;
 use channel::Channel;
 use list::ChannelList;
 use list::Step;
+use numbers::REFUSED_COUNT;
+use numbers::REFUSED_FIELD;
+use numbers::REFUSED_FORM;
+use numbers::REFUSED_LENGTH;
+use numbers::REFUSED_OUTSIDE;
 use plan::Steps;
 
 // The answer 0 with a list and its steps, or a refusal's number with neither.
@@ -43,20 +48,6 @@ const HEAD_LENGTH: usize = 3;
 const CHANNEL_SIZE: usize = HEAD_LENGTH + CHANNEL_LENGTH as usize;
 
 const STEP_SIZE: usize = HEAD_LENGTH + STEP_LENGTH as usize;
-
-// The flags of a step that is horizontal and in place: there are no others.
-const ALL_FLAGS: u8 = 3;
-
-// The refusals of questions 1 to 4 and 14.
-const REFUSED_OUTSIDE: u32 = 1;
-
-const REFUSED_TAG: u32 = 2;
-
-const REFUSED_NUMBERS: u32 = 3;
-
-const REFUSED_FORM: u32 = 4;
-
-const REFUSED_SLICE: u32 = 12;
 
 // A two-byte number, least byte first.
 fn word(low: u8, high: u8) -> u16
@@ -119,7 +110,7 @@ fn judge_channel(bytes: &[u8], channels: usize, metas: bool) -> u32
     ensures { λ r. ⌜ r ≡ Reading.judgeChannelField (now (bytes .entry)) channels metas ⌝ }
 {
     if ChannelList::MAX_CHANNELS <= channels {
-        return REFUSED_NUMBERS;
+        return REFUSED_COUNT;
     }
     let c = channel_of(bytes);
     if !(c.has_shifts_allowed() & (!c.is_meta() | metas)) {
@@ -134,9 +125,9 @@ fn judge_step(bytes: &[u8], steps: usize) -> u32
     ensures { λ r. ⌜ r ≡ Reading.judgeStepField (now (bytes .entry)) steps ⌝ }
 {
     if ChannelList::MAX_STEPS <= steps {
-        return REFUSED_NUMBERS;
+        return REFUSED_COUNT;
     }
-    if ALL_FLAGS < bytes[3] {
+    if Steps::ALL_FLAGS < bytes[3] {
         return REFUSED_FORM;
     }
     0
@@ -156,7 +147,7 @@ fn judge_field(bytes: &[u8], channels: usize, metas: bool, steps: usize) -> u32
     if is_channel(bytes, steps) {
         return judge_channel(bytes, channels, metas);
     }
-    REFUSED_TAG
+    REFUSED_FIELD
 }
 
 // The list with one channel more.
@@ -225,7 +216,7 @@ fn read_form(bytes: &[u8]) -> Record
         }
     }
     if list.count == 0 {
-        return refused(REFUSED_NUMBERS);
+        return refused(REFUSED_COUNT);
     }
     Record {
         answer: 0,
@@ -279,13 +270,6 @@ fn channel_field(c: Channel) -> [u8; CHANNEL_SIZE]
     ]
 }
 
-// "flags 1 (bit 0 horizontal, bit 1 in place)".
-fn flags_of(step: Step) -> u8
-    ensures { λ r. ⌜ r ≡ StepsSpec.flagsOf step ⌝ }
-{
-    (step.horizontal as u8) + 2 * (step.inplace as u8)
-}
-
 // "flags 1, first channel 2, number 2".
 fn step_field(step: Step) -> [u8; STEP_SIZE]
     ensures { λ r. ⌜ r ≡ Bytes.stepField step ⌝ }
@@ -294,7 +278,7 @@ fn step_field(step: Step) -> [u8; STEP_SIZE]
         STEP_TAG,
         low(STEP_LENGTH),
         high(STEP_LENGTH),
-        flags_of(step),
+        plan::flags_of(step),
         low(step.begin),
         high(step.begin),
         low(step.number),
@@ -352,7 +336,7 @@ pub fn write_record(list: ChannelList, steps: Steps, out: &mut [u8]) -> Written
     let length = start + STEP_SIZE * steps.count;
     if out.len() < length {
         return Written {
-            answer: REFUSED_SLICE,
+            answer: REFUSED_LENGTH,
             length: 0,
         };
     }

@@ -1,4 +1,3 @@
 pub mod Allowed
 pub mod Tiles
 pub mod Chosen
-pub mod Rows

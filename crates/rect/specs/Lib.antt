@@ -1,3 +1,2 @@
 pub mod Rect
 pub mod Parts
-pub mod Table

@@ -2,6 +2,7 @@
 use mathlib.Core.Bool.{Bool, cond, _||_, not}
 use Prim.Native.Nat.{ℕ, zero, suc, _-_, _*_, _/_, _%_, _^_, min}
 use lib.Dec.{eqb}
+use Rattle.numbers.specs.Numbers.{refusedForm, refusedTile}
 use Rattle.channel.specs.declared.Channel.{Channel}
 use Rattle.channel.specs.Channel.{isMeta, shiftsAllowed}
 use Rattle.rect.specs.declared.GridRect.{GridRect}
@@ -58,24 +59,24 @@ tile origin dimension c group gx gy =
 
 -- "a meta channel unless None/None" is refused
 unfoldable pub tileUnlessMeta : Origin → ℕ → Channel → ℕ → ℕ → ℕ → GridRect
-tileUnlessMeta origin dimension c group gx gy = cond (isMeta c) (refused 14) (tile origin dimension c group gx gy)
+tileUnlessMeta origin dimension c group gx gy = cond (isMeta c) (refused refusedTile) (tile origin dimension c group gx gy)
 
 -- "An answer is chosen by the pair of output kind and stored kind. Kinds are None (0), LF (1) and HF (2)"; "Other pairs are refused"
 unfoldable pub byKinds : ℕ → ℕ → Channel → ℕ → ℕ → ℕ → GridRect
 byKinds zero zero c group gx gy = whole c
-byKinds zero (suc stored) c group gx gy = refused 14
+byKinds zero (suc stored) c group gx gy = refused refusedTile
 byKinds (suc zero) zero c group gx gy = tileUnlessMeta atStart (lfDimension group) c group gx gy
 byKinds (suc zero) (suc zero) c group gx gy = tileUnlessMeta atZero (lfDimension group) c group gx gy
-byKinds (suc zero) (suc (suc stored)) c group gx gy = refused 14
+byKinds (suc zero) (suc (suc stored)) c group gx gy = refused refusedTile
 byKinds (suc (suc zero)) zero c group gx gy = tileUnlessMeta atStart group c group gx gy
 byKinds (suc (suc zero)) (suc zero) c group gx gy = tileUnlessMeta withinLf group c group gx gy
 byKinds (suc (suc zero)) (suc (suc zero)) c group gx gy = tileUnlessMeta atZero group c group gx gy
-byKinds (suc (suc zero)) (suc (suc (suc stored))) c group gx gy = refused 14
-byKinds (suc (suc (suc output))) stored c group gx gy = refused 14
+byKinds (suc (suc zero)) (suc (suc (suc stored))) c group gx gy = refused refusedTile
+byKinds (suc (suc (suc output))) stored c group gx gy = refused refusedTile
 
 -- question 4, then question 13, then the rectangle
 unfoldable pub rectOf : Channel → ℕ → ℕ → ℕ → ℕ → ℕ → GridRect
 rectOf c output stored group gx gy =
-    cond (not (shiftsAllowed c)) (refused 4)
-    (cond (not (groupAllowed group)) (refused 14)
+    cond (not (shiftsAllowed c)) (refused refusedForm)
+    (cond (not (groupAllowed group)) (refused refusedTile)
     (byKinds output stored c group gx gy))

@@ -9,11 +9,8 @@ ghost use Rattle.rect.specs.Rect as Spec;
 ghost use Rattle.rect.specs.Parts as Parts;
 ghost use Rattle.channel.specs.Channel.{shiftsAllowed, maxShift};
 use channel::Channel;
-
-// Refusals: question 4, and question 13.
-const SHIFTS_NOT_ALLOWED: u32 = 4;
-
-const KIND_OR_GROUP_NOT_ALLOWED: u32 = 14;
+use numbers::REFUSED_FORM;
+use numbers::REFUSED_TILE;
 
 // Groups along one side of an LF group.
 const LF_GROUPS: u32 = 8;
@@ -126,7 +123,7 @@ fn tile(origin: Origin, dimension: u32, channel: Channel, group: u32, gx: u16, g
     ensures { λ r. ⌜ r ≡ Spec.tileUnlessMeta (Parts.originOf origin) dimension channel group gx gy ⌝ }
 {
     if channel.is_meta() {
-        return refused(KIND_OR_GROUP_NOT_ALLOWED);
+        return refused(REFUSED_TILE);
     }
     let across = span_of(origin, dimension, group, channel.width, channel.hshift, gx);
     let down = span_of(origin, dimension, group, channel.height, channel.vshift, gy);
@@ -156,10 +153,10 @@ pub fn get_grid_rect(
     ensures { λ r. ⌜ r ≡ Spec.rectOf channel output stored group gx gy ⌝ }
 {
     if !channel.has_shifts_allowed() {
-        return refused(SHIFTS_NOT_ALLOWED);
+        return refused(REFUSED_FORM);
     }
     if !is_group_allowed(group) {
-        return refused(KIND_OR_GROUP_NOT_ALLOWED);
+        return refused(REFUSED_TILE);
     }
     let lf = LF_GROUPS * group;
     match (output as u32) * 0x100 + (stored as u32) {
@@ -169,6 +166,6 @@ pub fn get_grid_rect(
         0x200 => tile(Origin::Start, group, channel, group, gx, gy),
         0x201 => tile(Origin::WithinLf, group, channel, group, gx, gy),
         0x202 => tile(Origin::Zero, group, channel, group, gx, gy),
-        _ => refused(KIND_OR_GROUP_NOT_ALLOWED),
+        _ => refused(REFUSED_TILE),
     }
 }

@@ -6,6 +6,7 @@ use Prim.Native.Nat.{ℕ}
 use lib.Dec.{eqb}
 use lib.IntN.{ℤ}
 use lib.ListN.{length}
+use Rattle.numbers.specs.Numbers.{refusedLength}
 use Rattle.channel.specs.declared.Channel.{Channel}
 use Rattle.list.specs.declared.Step.{Step}
 use Rattle.list.specs.Lists.{total}
@@ -31,7 +32,7 @@ fits bytes xs = eqb (length xs) (total (channelsOf bytes))
 unfoldable pub answer : List ℕ → List ℤ → List ℤ → List ℤ → ℕ
 answer bytes read filled work =
     ask (eqb (readAnswer bytes) 0) (readAnswer bytes)
-    (ask (fits bytes read && (fits bytes filled && fits bytes work)) 12 0)
+    (ask (fits bytes read && (fits bytes filled && fits bytes work)) refusedLength 0)
 
 -- ---- the slices afterwards: "lent slices keep their contents" where the call is refused
 -- rebuilding: the picture of the pyramid; writing: the pyramid of the picture

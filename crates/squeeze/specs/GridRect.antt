@@ -5,6 +5,7 @@ use mathlib.Core.List.{List, [], _∷_}
 use Prim.Native.Nat.{ℕ}
 use lib.Dec.{eqb}
 use lib.ListN.{length}
+use Rattle.numbers.specs.Numbers.{refusedLength}
 use Rattle.channel.specs.declared.Channel.{Channel}
 use Rattle.list.specs.Questions.{ask}
 use Rattle.rect.specs.declared.GridRect.{GridRect}
@@ -18,7 +19,7 @@ numbersOf r = r .x ∷ r .y ∷ r .width ∷ r .height ∷ []
 
 unfoldable pub answer : Channel → ℕ → ℕ → ℕ → ℕ → ℕ → List ℕ → ℕ
 answer c output stored group gx gy numbers =
-    ask (eqb (rectOf c output stored group gx gy .answer) 0) (rectOf c output stored group gx gy .answer) (ask (eqb (length numbers) 4) 12 0)
+    ask (eqb (rectOf c output stored group gx gy .answer) 0) (rectOf c output stored group gx gy .answer) (ask (eqb (length numbers) 4) refusedLength 0)
 
 -- the slice afterwards
 unfoldable pub numbersAfter : Channel → ℕ → ℕ → ℕ → ℕ → ℕ → List ℕ → List ℕ

@@ -9,10 +9,9 @@ ghost use Rattle.listing.specs.Listing as Listing;
 ghost use Rattle.squeeze.specs.Entry as Entry;
 ghost use Rattle.squeeze.specs.GridRect as GridRect;
 use channel::Channel;
+use numbers::REFUSED_LENGTH;
 
-// Question 14's refusal, and the numbers of a rectangle.
-const REFUSED_SLICE: u32 = 12;
-
+// x, y, width and height.
 const RECT_NUMBERS: usize = 4;
 
 // The picture of the pyramid that the record in `bytes` describes; `work` is as long as
@@ -122,7 +121,7 @@ pub extern "C" fn squeeze_grid_rect(
         return found.answer;
     }
     if numbers.len() != RECT_NUMBERS {
-        return REFUSED_SLICE;
+        return REFUSED_LENGTH;
     }
     numbers[0] = found.x;
     numbers[1] = found.y;

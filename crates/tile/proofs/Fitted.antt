@@ -11,9 +11,10 @@ use borrow.Author.Tests.{leb-true, eqb-true, eq-eqb, ne-eqb}
 use lib.Dec.{eqb, leb}
 use lib.IntN.{ℤ}
 use lib.ListN.{length}
+use Rattle.numbers.specs.Numbers.{maxSamples}
 use Rattle.line.specs.Uncut.{Fitting, uncut}
 use Rattle.tile.specs.declared.Sides.{Sides}
-use Rattle.tile.specs.Call.{Call, maxSamples, area, areaAllowed, areasAllowed, along, across, sidesSmall, sidesFit, lineFits, sizesFit, slicesFit, answer, squeezeOn, squeezeOf, after}
+use Rattle.tile.specs.Call.{Call, area, areaAllowed, areasAllowed, along, across, sidesSmall, sidesFit, lineFits, sizesFit, slicesFit, answer, squeezeOn, squeezeOf, after}
 
 -- ---- tests taken apart
 pub and-true : (a b : Bool) → a && b ≡ true → (a ≡ true) × (b ≡ true)

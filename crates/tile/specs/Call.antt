@@ -5,15 +5,9 @@ use Prim.Native.Nat.{ℕ, _+_, _*_}
 use lib.Dec.{eqb, leb}
 use lib.IntN.{ℤ}
 use lib.ListN.{length}
+use Rattle.numbers.specs.Numbers.{maxSide, maxSamples, refusedSamples, refusedSizes, refusedLength}
 use Rattle.tile.specs.declared.Sides.{Sides}
 use Rattle.line.specs.Uncut.{Squeeze, squeeze, uncut}
-
--- the limits of questions 5 and 12
-abbrev pub maxSamples : ℕ
-maxSamples = 16_777_216
-
-abbrev pub maxSide : ℕ
-maxSide = 65_535
 
 -- the arguments of a call: the direction, the sizes of average, residual and output, and the five slices
 pub record Call : Type 0 where
@@ -73,7 +67,7 @@ slicesFit c =
 
 -- the questions in their order; the first "no" is the refusal
 unfoldable pub answer : Call → ℕ
-answer c = cond (areasAllowed c) (cond (sizesFit c) (cond (slicesFit c) 0 12) 13) 5
+answer c = cond (areasAllowed c) (cond (sizesFit c) (cond (slicesFit c) 0 refusedLength) refusedSizes) refusedSamples
 
 -- the squeeze that an accepted call makes
 abbrev pub squeezeOn : Bool → Sides → Sides → List ℤ → List ℤ → List ℤ → List ℤ → Squeeze

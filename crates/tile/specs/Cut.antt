@@ -7,9 +7,10 @@ use Prim.Native.Nat.{ℕ, zero, suc, _+_, _-_, _*_, _<_, _≤_}
 use lib.Dec.{eqb, ltb}
 use lib.IntN.{ℤ, pos}
 use lib.ListN.{length, getD, take, drop}
+use Rattle.numbers.specs.Numbers.{maxSide, maxSamples}
 use Rattle.tile.specs.declared.Sides.{Sides}
 use Rattle.line.specs.Uncut.{Squeeze, place, lineAt, positionAt, size, table, uncut}
-use Rattle.tile.specs.Call.{Call, maxSide, maxSamples, answer, after}
+use Rattle.tile.specs.Call.{Call, answer, after}
 
 -- a strip: the lines from `start` on, and its tiles along the squeeze; tile t begins with pair `from t`
 pub record Strip : Type 0 where

@@ -11,17 +11,16 @@ ghost use Prim.Native.Nat.{_+_, _*_};
 ghost use lib.ListN.{length};
 ghost use Rattle.line.specs.Uncut.{Fitting, uncut};
 ghost use Rattle.tile.specs.Call as Call;
+use numbers::MAX_SAMPLES;
+use numbers::MAX_SIDE;
+use numbers::REFUSED_LENGTH;
+use numbers::REFUSED_SAMPLES;
+use numbers::REFUSED_SIZES;
 
 // Width and height of a rectangle.
 pub struct Sides {
     pub width: usize,
     pub height: usize,
-}
-
-impl Sides {
-    pub const MAX_SAMPLES: usize = 16_777_216;
-
-    pub const MAX_SIDE: usize = 65_535;
 }
 
 // Question 5 of one rectangle. The product is not formed: it may not fit.
@@ -32,7 +31,7 @@ fn area_allowed(s: Sides) -> bool
     if w == 0 {
         return true;
     }
-    s.height <= Sides::MAX_SAMPLES / w
+    s.height <= MAX_SAMPLES / w
 }
 
 fn along(horizontal: bool, s: Sides) -> usize
@@ -50,7 +49,7 @@ fn across(horizontal: bool, s: Sides) -> usize
 fn sides_small(s: Sides) -> bool
     ensures { λ r. ⌜ r ≡ Call.sidesSmall s ⌝ }
 {
-    (s.width <= Sides::MAX_SIDE) & (s.height <= Sides::MAX_SIDE)
+    (s.width <= MAX_SIDE) & (s.height <= MAX_SIDE)
 }
 
 fn line_fits(crossing: usize, s: &[i32]) -> bool
@@ -135,15 +134,15 @@ pub fn squeeze_tile<'a>(
         height: oh,
     };
     if !(area_allowed(a) & (area_allowed(r) & area_allowed(o))) {
-        return 5;
+        return REFUSED_SAMPLES;
     }
     let h = horizontal != 0;
     let crossing = across(h, a);
     if !(sides_fit(h, a, r, o) & (line_fits(crossing, next) & line_fits(crossing, prev))) {
-        return 13;
+        return REFUSED_SIZES;
     }
     if !((avg.len() == aw * ah) & ((res.len() == rw * rh) & (out.len() == ow * oh))) {
-        return 12;
+        return REFUSED_LENGTH;
     }
     unsqueeze(h, a, r, avg, res, next, prev, out);
     0

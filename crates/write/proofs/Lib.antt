@@ -3,5 +3,4 @@ pub mod Along
 pub mod Flat
 pub mod Ranges
 pub mod Running
-pub mod Plans
 pub mod Answered

@@ -9,6 +9,7 @@ use native.Mathlib.Nat.{mul-comm, mul-add, mul-le-mul}
 use lib.IntN.{ℤ}
 use lib.ListN.{length, take}
 use lib.Seq.{take-add}
+use Rattle.numbers.specs.Numbers.{maxSide}
 use Rattle.channel.specs.declared.Channel.{Channel}
 use Rattle.channel.specs.Channel as Channel
 use Rattle.channel.specs.Channel.{samples}
@@ -21,7 +22,6 @@ use Rattle.list.proofs.Tables.{table-part}
 use Rattle.list.proofs.Channels.{channels-length}
 use Rattle.list.proofs.Parts.{parts-whole}
 use Rattle.line.specs.Forward.{averageCount, residualCount}
-use Rattle.forward.specs.Into.{maxSide}
 use Rattle.runs.specs.Runs.{linesOf, sizeOf}
 use Rattle.runs.proofs.OneChannel.{average-samples, residual-samples, averages-length, residuals-length}
 use Rattle.write.specs.Halves.{half, halfOf}

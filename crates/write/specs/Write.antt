@@ -6,6 +6,7 @@ use Prim.Native.Nat.{ℕ}
 use lib.Dec.{eqb}
 use lib.IntN.{ℤ}
 use lib.ListN.{length}
+use Rattle.numbers.specs.Numbers.{refusedLength}
 use Rattle.channel.specs.declared.Channel.{Channel}
 use Rattle.list.specs.declared.ChannelList.{ChannelList}
 use Rattle.list.specs.Lists.{channels, total}
@@ -24,7 +25,7 @@ slicesFit cs picture pyramid work =
 unfoldable pub answer : ChannelList → Steps → List ℤ → List ℤ → List ℤ → ℕ
 answer l s picture pyramid work =
     ask (eqb (judgePlan l s) 0) (judgePlan l s)
-    (ask (slicesFit (channels l) picture pyramid work) 12 0)
+    (ask (slicesFit (channels l) picture pyramid work) refusedLength 0)
 
 -- the pyramid slice afterwards: the plan's steps on the picture, first to last
 unfoldable pub written : ChannelList → Steps → List ℤ → List ℤ → List ℤ → List ℤ

@@ -6,6 +6,7 @@ ghost use mathlib.Core.Bool.{true, false};
 ghost use mathlib.Core.List.{_++_};
 ghost use Prim.Native.Nat.{_+_, _≤_};
 ghost use lib.ListN.{length, take, drop};
+ghost use Rattle.numbers.specs.Numbers.{maxSide};
 ghost use Rattle.channel.specs.Channel.{samples};
 ghost use Rattle.list.specs.Tables.{map};
 ghost use Rattle.list.specs.Lists.{maxSteps, channels, range, total};
@@ -14,16 +15,13 @@ ghost use Rattle.list.specs.Accepted.{StepAccepted};
 ghost use Rattle.plan.specs.Steps as Spec;
 ghost use Rattle.plan.specs.Plans.{judgeSteps, judgePlan, meant};
 ghost use Rattle.runs.specs.Runs.{linesOf, sizeOf, stepForward, squeezed};
-ghost use Rattle.forward.specs.Into.{maxSide};
 ghost use Rattle.write.specs.Halves.{half, halfOf, made};
 ghost use Rattle.write.specs.Write as Write;
 use channel::Channel;
 use list::ChannelList;
 use list::Step;
+use numbers::REFUSED_LENGTH;
 use plan::Steps;
-
-// Question 14's refusal.
-const REFUSED_SLICES: u32 = 12;
 
 // The samples of a list's first `k` channels.
 fn samples_before(list: ChannelList, k: usize) -> usize
@@ -165,18 +163,6 @@ fn run(list: ChannelList, steps: Steps, pyramid: &mut [i32], work: &mut [i32])
     }
 }
 
-// An accepted plan on the samples of its list; no steps mean the default plan.
-fn run_plan(list: ChannelList, steps: Steps, pyramid: &mut [i32], work: &mut [i32])
-    requires { ⌜ (judgePlan list steps ≡ 0) × (length (now pyramid) ≡ total (channels list)) × (length (now work) ≡ total (channels list)) ⌝ }
-    ensures { λ _. ⌜ now (pyramid .exit) ≡ squeezed (meant (Spec.steps steps) (channels list)) (channels list) (now (pyramid .entry)) ⌝ }
-{
-    if steps.count != 0 {
-        run(list, steps, pyramid, work);
-    } else {
-        run(list, plan::default_squeeze(list).steps, pyramid, work);
-    }
-}
-
 // The pyramid of a picture: all slices have the samples of the list, and the
 // work slice is cleared at the end.
 pub fn write(
@@ -194,10 +180,10 @@ pub fn write(
     }
     let total = list.total() as usize;
     if !((picture.len() == total) & ((pyramid.len() == total) & (work.len() == total))) {
-        return REFUSED_SLICES;
+        return REFUSED_LENGTH;
     }
     buffer::copy(picture, pyramid);
-    run_plan(list, steps, pyramid, work);
+    run(list, plan::meant_steps(list, steps), pyramid, work);
     buffer::clear(work);
     0
 }

@@ -3,7 +3,8 @@ use Prim.Native.Nat.{_*_, _≤_}
 use native.Mathlib.Omega.{arith}
 use native.Mathlib.Nat.{mul-le-mul}
 use borrow.Author.Tests.{le-leb, lt-leb}
-use Rattle.forward.specs.Into.{maxSide, slicesFit}
+use Rattle.numbers.specs.Numbers.{maxSide}
+use Rattle.forward.specs.Into.{slicesFit}
 use Rattle.forward.proofs.slices_fit.Statement.{statement}
 use Rattle.forward.proofs.slices_fit.Tie as tie
 

@@ -1,7 +1,7 @@
 -- `write_record` meets its contract: the plan's answer, the record's length, then the two rows of fields (proofs/Outcomes.antt). Assumes nothing.
 use native.Mathlib.Omega.{arith}
 use borrow.Author.Needs.{needs}
-use Rattle.record.proofs.Judged.{plan-answer}
+use Rattle.plan.proofs.Judged.{plan-answer}
 use Rattle.record.proofs.Outcomes.{counts, channels-size, steps-size, write-refused, write-short, write-length, write-bytes}
 use Rattle.record.proofs.write_record.Statement.{statement}
 use Rattle.record.proofs.write_record.Tie as tie

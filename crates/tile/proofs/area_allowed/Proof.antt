@@ -8,7 +8,8 @@ use native.Mathlib.Nat.{le-div-iff-mul-le, mul-comm, zero-mul}
 use borrow.Author.Needs.{needs}
 use borrow.Author.Tests.{le-leb, lt-leb}
 use lib.Dec.{leb}
-use Rattle.tile.specs.Call.{maxSamples, areaAllowed}
+use Rattle.numbers.specs.Numbers.{maxSamples}
+use Rattle.tile.specs.Call.{areaAllowed}
 use Rattle.line.proofs.Lines.{lt-or-ge}
 use Rattle.tile.proofs.area_allowed.Statement.{statement}
 use Rattle.tile.proofs.area_allowed.Tie as tie

@@ -6,8 +6,9 @@ use native.Mathlib.Omega.{arith}
 use borrow.Author.Needs.{needs}
 use borrow.Author.Tests.{leb-true}
 use lib.Dec.{eqb, leb}
+use Rattle.numbers.specs.Numbers.{maxSide}
 use Rattle.tile.specs.declared.Sides.{Sides}
-use Rattle.tile.specs.Call.{maxSide, along, across, sidesSmall, sidesFit}
+use Rattle.tile.specs.Call.{along, across, sidesSmall, sidesFit}
 use Rattle.tile.proofs.Fitted.{and-true, not-false, not-true}
 use Rattle.tile.proofs.sides_fit.Statement.{statement}
 use Rattle.tile.proofs.sides_fit.Tie as tie

@@ -3,8 +3,8 @@ use mathlib.Core.Path.{_≡_, sym}
 use Prim.Native.Nat.{_-_, _/_, _≤_}
 use native.Mathlib.Omega.{arith}
 use borrow.Author.Needs.{needs}
+use Rattle.numbers.specs.Numbers.{maxSide}
 use Rattle.line.specs.Forward.{averageCount, residualCount}
-use Rattle.forward.specs.Into.{maxSide}
 use Rattle.runs.specs.Runs.{sizeOf}
 use Rattle.write.proofs.Sums.{half-residual, half-average, small}
 use Rattle.write.proofs.half_samples.Statement.{statement}

@@ -3,13 +3,14 @@ use mathlib.Core.Path.{_≡_, sym, ap, _∙_}
 use mathlib.Core.Bool.{true}
 use borrow.Author.Needs.{needs}
 use lib.ListN.{length}
-use Rattle.list.specs.declared.Stepped.{Stepped}
-use Rattle.list.specs.Lists.{channels}
+use Prim.Native.Nat.{_≤_}
+use Rattle.list.specs.Lists.{maxSteps, channels, total}
 use Rattle.list.proofs.Asking.{no, yes}
-use Rattle.plan.specs.Plans.{judgePlan}
+use Rattle.plan.specs.Steps.{steps}
+use Rattle.plan.specs.Plans.{judgePlan, meant}
+use Rattle.plan.proofs.Judged.{plan-answer, judged-list, judged-counts, meant-judged, meant-is}
 use Rattle.buffer.proofs.Overwritten.{copied-all}
 use Rattle.write.specs.Write.{slicesFit}
-use Rattle.write.proofs.Plans.{rewritten-answer}
 use Rattle.write.proofs.Answered.{zeros-same, fit-tested, fit-lengths, plan-refused, slices-refused, accepted}
 use Rattle.write.proofs.write.Statement.{statement}
 use Rattle.write.proofs.write.Tie as tie
@@ -18,7 +19,7 @@ use Rattle.write.proofs.write.Tie as tie
 judged : (c : tie.After-rewrite) → let a = c .before .args in c .rewrite .result .answer ≡ judgePlan (a .list) (a .steps)
 judged c =
     let a = c .before .args in
-    ap (λ (r : Stepped). r .answer) (c .rewrite .ensures) ∙ rewritten-answer (a .list) (a .steps)
+    plan-answer (a .list) (a .steps) (c .rewrite .result) (c .rewrite .ensures)
 
 plan : (c : tie.Else2) → let a = c .before .before .before .before .args in judgePlan (a .list) (a .steps) ≡ 0
 plan c = sym (judged (c .before .before .before)) ∙ c .before .before .if1 .left
@@ -28,12 +29,25 @@ slices c =
     let a = c .before .before .before .before .args in
     yes (fit-tested (channels (a .list)) (c .before .total .result) (a .picture .now) (a .pyramid .now) (a .work .now) (c .before .total .ensures)) (c .if2 .left)
 
-copied : (c : tie.After-run-plan-arg2) → c .before .before .before .copy .last .1 .0 ≡ c .before .before .before .before .before .before .before .before .before .args .picture .now
-copied c =
-    let passed = c .before .before .before .before .before in
-    let a = passed .before .before .before .before .args in
-    let l = fit-lengths (channels (a .list)) (a .picture .now) (a .pyramid .now) (a .work .now) (slices passed) in
-    c .before .before .before .copy .ensures ∙ copied-all (a .picture .now) (a .pyramid .now) (l .0 ∙ sym (l .1))
+-- the samples that the run starts from, and the steps that it takes
+module _ (c : tie.After-run-arg2) where
+  abbrev passed : tie.Else2
+  passed = c .before .before .before .before .before .before
+
+  abbrev start : tie.Start
+  start = passed .before .before .before .before
+
+  lengths : (length (start .args .picture .now) ≡ total (channels (start .args .list))) × (length (start .args .pyramid .now) ≡ total (channels (start .args .list))) × (length (start .args .work .now) ≡ total (channels (start .args .list)))
+  lengths = fit-lengths (channels (start .args .list)) (start .args .picture .now) (start .args .pyramid .now) (start .args .work .now) (slices passed)
+
+  copied : c .before .before .before .before .copy .last .1 .0 ≡ start .args .picture .now
+  copied = c .before .before .before .before .copy .ensures ∙ copied-all (start .args .picture .now) (start .args .pyramid .now) (lengths .0 ∙ sym (lengths .1))
+
+  few : c .before .before .meant-steps .result .count ≤ maxSteps
+  few = c .before .before .meant-steps .ensures .1 (judged-counts (start .args .list) (start .args .steps) (plan passed) .1)
+
+  taken : steps (c .before .before .meant-steps .result) ≡ meant (steps (start .args .steps)) (channels (start .args .list))
+  taken = meant-is (start .args .list) (start .args .steps) (plan passed) _ (c .before .before .meant-steps .ensures .0) few
 
 rewrite-requires : tie.Need-rewrite-requires
 rewrite-requires c κs = search needs
@@ -56,12 +70,14 @@ returns-2 c =
 copy-requires : tie.Need-copy-requires
 copy-requires c κs = search needs
 
-run-plan-requires : tie.Need-run-plan-requires
-run-plan-requires c κs =
-    let passed = c .before .before .before .before .before in
-    let a = passed .before .before .before .before .args in
-    let l = fit-lengths (channels (a .list)) (a .picture .now) (a .pyramid .now) (a .work .now) (slices passed) in
-    (plan passed, ap length (copied c) ∙ l .0, l .2)
+meant-steps-requires : tie.Need-meant-steps-requires
+meant-steps-requires c κs = search needs
+
+run-requires : tie.Need-run-requires
+run-requires c κs =
+    let a = start c .args in
+    let ok = plan (passed c) in
+    (judged-list (a .list) (a .steps) ok, few c, rw (taken c) (meant-judged (a .list) (a .steps) ok), ap length (copied c) ∙ lengths c .0, lengths c .2)
 
 clear-requires : tie.Need-clear-requires
 clear-requires c κs = search needs
@@ -75,10 +91,10 @@ same-length-2 c = search needs
 returns-3 : tie.Need-returns-3
 returns-3 c =
     let ran = c .before .before .before .before .before in
-    let passed = ran .before .before .before .before .before .before in
-    let a = passed .before .before .before .before .args in
-    accepted (a .list) (a .steps) (a .picture .now) (a .pyramid .now) (a .work .now) (plan passed) (slices passed) _ _
-    (rw (copied (ran .before)) at (ran .run-plan .ensures)) (c .before .clear .ensures ∙ zeros-same _ (a .work .now) (ran .run-plan .kept .1 .1 .1 .0))
+    let r = ran .before in
+    let a = start r .args in
+    accepted (a .list) (a .steps) (a .picture .now) (a .pyramid .now) (a .work .now) (plan (passed r)) (slices (passed r)) _ _
+    (rw (copied r, taken r) at (ran .run .ensures)) (c .before .clear .ensures ∙ zeros-same _ (a .work .now) (ran .run .kept .1 .1 .1 .0))
 
 pub write-spec : {M : Type 1} → statement M
 write-spec =
@@ -89,7 +105,8 @@ write-spec =
     total-requires
     returns-2
     copy-requires
-    run-plan-requires
+    meant-steps-requires
+    run-requires
     clear-requires
     same-length
     same-length-2

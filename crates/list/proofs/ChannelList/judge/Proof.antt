@@ -1,7 +1,7 @@
 -- `judge` meets its contract: each return has the answers to the questions before it. Assumes nothing.
 use borrow.Author.Needs.{needs}
 use borrow.Author.Tests.{le-leb, lt-leb, not-true, not-false}
-use Rattle.list.specs.Lists.{maxSamples}
+use Rattle.numbers.specs.Numbers.{maxSamples}
 use Rattle.list.specs.Questions.{countAllowed, totalAllowed, judgeList}
 use Rattle.list.proofs.Asking.{no, yes}
 use Rattle.list.proofs.ChannelList.judge.Statement.{statement}

@@ -1,0 +1,60 @@
+-- What `read_record` gives (specs/Records.antt): its answer, and of a record that is accepted the list and the steps that its fields hold.
+-- Assumes nothing.
+use mathlib.Core.Path.{_≡_, refl, sym, ap, _∙_}
+use mathlib.Core.Bool.{Bool, true, false}
+use mathlib.Core.List.{List}
+use Prim.Native.Nat.{ℕ}
+use native.Mathlib.Omega.{arith}
+use lib.Dec.{eqb}
+use borrow.Author.Tests.{eqb-true}
+use Rattle.list.specs.declared.ChannelList.{ChannelList}
+use Rattle.list.specs.Lists as Lists
+use Rattle.list.specs.Lists.{channels}
+use Rattle.list.proofs.Packed.{channels-packed}
+use Rattle.plan.specs.Steps as S
+use Rattle.plan.specs.Steps.{steps}
+use Rattle.plan.specs.Plans.{judgePlan}
+use Rattle.plan.proofs.Runs.{none-refused}
+use Rattle.plan.proofs.Packed.{packed-count, steps-packed}
+use Rattle.plan.proofs.Judged.{judged-counts}
+use Rattle.record.specs.declared.Record.{Record}
+use Rattle.record.specs.Reading.{formOf}
+use Rattle.record.specs.Records as R
+use Rattle.record.specs.Records.{readAnswer, readOf}
+
+module _ (bytes : List ℕ) (f : Record) (e : f ≡ readOf bytes) where
+  pub read-answer : f .answer ≡ readAnswer bytes
+  unfolding R.readOf
+  read-answer = ap (λ (x : Record). x .answer) e ∙ go (eqb (readAnswer bytes) 0) refl
+    where
+      go : (b : Bool) → eqb (readAnswer bytes) 0 ≡ b → readOf bytes .answer ≡ readAnswer bytes
+      go true t = rw t (sym (eqb-true (readAnswer bytes) 0 t))
+      go false t = rw t
+
+  -- a record that is accepted
+  module _ (z : f .answer ≡ 0) where
+    pub read-zero : readAnswer bytes ≡ 0
+    read-zero = sym read-answer ∙ z
+
+    list-is : f .list ≡ Lists.packed (formOf bytes .channels)
+    unfolding R.readOf
+    list-is = ap (λ (x : Record). x .list) e ∙ rw read-zero
+
+    steps-is : f .steps ≡ S.packed (formOf bytes .steps)
+    unfolding R.readOf
+    steps-is = ap (λ (x : Record). x .steps) e ∙ rw read-zero
+
+    pub read-judged : judgePlan (f .list) (f .steps) ≡ 0
+    unfolding R.readAnswer
+    read-judged = rw (list-is, steps-is) (none-refused (formOf bytes .answer) _ read-zero .1)
+
+    pub list-back : channels (f .list) ≡ formOf bytes .channels
+    unfolding Lists.packed
+    list-back =
+        ap channels list-is
+        ∙ channels-packed (formOf bytes .channels) (omega (arith, ap (λ (x : ChannelList). x .count) list-is, judged-counts (f .list) (f .steps) read-judged .0))
+
+    pub steps-back : steps (f .steps) ≡ formOf bytes .steps
+    steps-back =
+        ap steps steps-is
+        ∙ steps-packed (formOf bytes .steps) (omega (arith, packed-count (f .steps) (formOf bytes .steps) steps-is, judged-counts (f .list) (f .steps) read-judged .1))
