@@ -22,19 +22,23 @@ const LENGTHS: usize = 8;
 
 const HEAD: usize = 20;
 
-// Room for a case's bytes, and for the samples of a slice.
+// Samples before and after a lent slice that is written.
+const GUARD: usize = 16;
+
+// Room for a case's bytes, and for the samples of a slice with its guards.
 const CASE: usize = 1_048_576;
 
 const ROOM: usize = 131_072;
 
-// Samples before and after a lent slice that is written.
-const GUARD: usize = 16;
+// A slice may have fewer samples than this.
+const SAMPLES: usize = 131_040;
 
 // The refusal of a slice of another length.
 const REFUSED_SLICE: u32 = 12;
 
 // The calls of an accepted case each way: one with the lengths that are right,
-// then each of the three slices one sample short, then each one sample long.
+// then each of the three slices one sample short, then each one sample long. A
+// refused case has the first only.
 const TRIALS: usize = 7;
 
 // A call: the function, the answer that it must give, and the lengths of the
@@ -82,8 +86,11 @@ fn mark(i: usize) -> i32 {
     (1_515_870_000 + i % 1021) as i32
 }
 
-fn fill(s: &mut [i32]) {
-    for i in 0..s.len() {
+fn fill(s: &mut [i32], to: usize) {
+    if s.len() < to {
+        return;
+    }
+    for i in 0..to {
         s[i] = mark(i);
     }
 }
@@ -108,17 +115,23 @@ fn all_zero(s: &[i32]) -> bool {
     right
 }
 
-// Fills s with the samples in `bytes`, and zeros past their end.
-fn decode(bytes: &[u8], s: &mut [i32]) {
-    for i in 0..s.len() {
+// Fills s up to `to` with the samples in `bytes`, and zeros past their end.
+fn decode(bytes: &[u8], s: &mut [i32], to: usize) {
+    if s.len() < to {
+        return;
+    }
+    for i in 0..to {
         s[i] = sample_at(bytes, 4 * i);
     }
 }
 
-// Whether s has the samples in `bytes`, and zeros past their end.
-fn same(bytes: &[u8], s: &[i32]) -> bool {
+// Whether s up to `to` has the samples in `bytes`, and zeros past their end.
+fn same(bytes: &[u8], s: &[i32], to: usize) -> bool {
+    if s.len() < to {
+        return false;
+    }
     let mut right = true;
-    for i in 0..s.len() {
+    for i in 0..to {
         right = right & (s[i] == sample_at(bytes, 4 * i));
     }
     right
@@ -138,53 +151,23 @@ fn answer_of(
     }
 }
 
-// Whether the rooms of the slices that are filled and for work, each with its
-// guards, are as a call with this answer must leave them.
-fn rooms_right(answer: u32, wanted: &[u8], filled: &[i32], work: &[i32]) -> bool
-    requires { ⌜ (32 ≤ length (now filled)) × (32 ≤ length (now work)) ⌝ }
+// Whether a call has left the slices that are filled and for work, and the
+// samples around them, as it must.
+fn rooms_right(call: Call, wanted: &[u8], filled: &[i32], work: &[i32]) -> bool
+    requires { ⌜ (call .filled ≤ 131_040) × (call .work ≤ 131_040) × (131_072 ≤ length (now filled)) × (131_072 ≤ length (now work)) ⌝ }
 {
-    let f = filled.len();
-    let w = work.len();
-    if answer != 0 {
-        return kept(filled, 0, f) & kept(work, 0, w);
+    let f = GUARD + call.filled;
+    let w = GUARD + call.work;
+    if call.answer != 0 {
+        return kept(filled, 0, f + GUARD) & kept(work, 0, w + GUARD);
     }
-    let around = kept(filled, 0, GUARD) & kept(filled, f - GUARD, f);
-    let beside = kept(work, 0, GUARD) & kept(work, w - GUARD, w);
-    let picture = same(wanted, &filled[GUARD..f - GUARD]);
-    around & beside & picture & all_zero(&work[GUARD..w - GUARD])
+    let around = kept(filled, 0, GUARD) & kept(filled, f, f + GUARD);
+    let beside = kept(work, 0, GUARD) & kept(work, w, w + GUARD);
+    around & beside & same(wanted, &filled[GUARD..], f - GUARD) & all_zero(&work[GUARD..w])
 }
 
-// Whether a call over the rooms, each with its guards, gives its answer and leaves
-// every slice as it must.
+// Whether a call gives its answer and leaves every slice as it must.
 fn call_right(
-    rebuilds: bool,
-    answer: u32,
-    bytes: &[u8],
-    given: &[u8],
-    wanted: &[u8],
-    source: &mut [i32],
-    filled: &mut [i32],
-    work: &mut [i32],
-) -> bool
-    requires { ⌜ (32 ≤ length (now filled)) × (32 ≤ length (now work)) ⌝ }
-{
-    let f = filled.len();
-    let w = work.len();
-    decode(given, source);
-    fill(filled);
-    fill(work);
-    let answered = answer_of(
-        rebuilds,
-        bytes,
-        source,
-        &mut filled[GUARD..f - GUARD],
-        &mut work[GUARD..w - GUARD],
-    );
-    (answered == answer) & same(given, source) & rooms_right(answer, wanted, filled, work)
-}
-
-// Whether a call comes out right, in rooms that are large enough.
-fn comes_right(
     call: Call,
     bytes: &[u8],
     given: &[u8],
@@ -192,42 +175,35 @@ fn comes_right(
     source: &mut [i32],
     filled: &mut [i32],
     work: &mut [i32],
-) -> bool {
+) -> bool
+    requires { ⌜ (call .read ≤ 131_040) × (call .filled ≤ 131_040) × (call .work ≤ 131_040) × (131_072 ≤ length (now source)) × (131_072 ≤ length (now filled)) × (131_072 ≤ length (now work)) ⌝ }
+{
     let r = call.read;
-    let f = call.filled;
-    let w = call.work;
-    if source.len() < r {
-        return false;
-    }
-    if filled.len() < f {
-        return false;
-    }
-    if work.len() < w {
-        return false;
-    }
-    if filled.len() - f < 2 * GUARD {
-        return false;
-    }
-    if work.len() - w < 2 * GUARD {
-        return false;
-    }
-    call_right(
+    let f = GUARD + call.filled;
+    let w = GUARD + call.work;
+    decode(given, source, r);
+    fill(filled, f + GUARD);
+    fill(work, w + GUARD);
+    let answered = answer_of(
         call.rebuilds,
-        call.answer,
         bytes,
-        given,
-        wanted,
-        &mut source[0..r],
-        &mut filled[0..f + 2 * GUARD],
-        &mut work[0..w + 2 * GUARD],
-    )
+        &source[0..r],
+        &mut filled[GUARD..f],
+        &mut work[GUARD..w],
+    );
+    let rooms = rooms_right(call, wanted, filled, work);
+    (answered == call.answer) & same(given, source, r) & rooms
 }
 
-// The length of slice `k` in a trial, where `n` is right. One sample short of
+// The length of slice `k` in a trial, where the case says n. One sample short of
 // none is one sample long.
 fn trial_length(n: usize, trial: usize, k: usize) -> usize
-    requires { ⌜ (n < 4_294_967_296) × (k < 3) ⌝ }
+    requires { ⌜ k < 3 ⌝ }
+    ensures { λ r. ⌜ r ≤ 131_040 ⌝ }
 {
+    if SAMPLES <= n {
+        return 0;
+    }
     if trial == k + 4 {
         n + 1
     } else if trial == k + 1 {
@@ -237,23 +213,36 @@ fn trial_length(n: usize, trial: usize, k: usize) -> usize
     }
 }
 
-// The call of an accepted case's trial, over n samples.
-fn trial_call(rebuilds: bool, n: usize, trial: usize) -> Call
-    requires { ⌜ n < 4_294_967_296 ⌝ }
+fn trial_call(case: &[u8], rebuilds: bool, trial: usize) -> Call
+    ensures { λ r. ⌜ (r .read ≤ 131_040) × (r .filled ≤ 131_040) × (r .work ≤ 131_040) ⌝ }
 {
     Call {
         rebuilds: rebuilds,
-        answer: if trial == 0 { 0 } else { REFUSED_SLICE },
-        read: trial_length(n, trial, 0),
-        filled: trial_length(n, trial, 1),
-        work: trial_length(n, trial, 2),
+        answer: if trial == 0 {
+            word_at(case, ANSWER)
+        } else {
+            REFUSED_SLICE
+        },
+        read: trial_length(length_of(case, 0), trial, 0),
+        filled: trial_length(length_of(case, 1), trial, 1),
+        work: trial_length(length_of(case, 2), trial, 2),
+    }
+}
+
+fn trials_of(case: &[u8]) -> usize
+    ensures { λ r. ⌜ r ≤ 7 ⌝ }
+{
+    if word_at(case, ANSWER) == 0 {
+        TRIALS
+    } else {
+        1
     }
 }
 
 // Whether every trial of one function comes out right.
 fn trials_right(
+    case: &[u8],
     rebuilds: bool,
-    n: usize,
     bytes: &[u8],
     given: &[u8],
     wanted: &[u8],
@@ -261,67 +250,60 @@ fn trials_right(
     filled: &mut [i32],
     work: &mut [i32],
 ) -> bool
-    requires { ⌜ n < 4_294_967_296 ⌝ }
+    requires { ⌜ (131_072 ≤ length (now source)) × (131_072 ≤ length (now filled)) × (131_072 ≤ length (now work)) ⌝ }
 {
+    let trials = trials_of(case);
     let mut right = true;
-    for trial in 0..TRIALS {
-        let call = trial_call(rebuilds, n, trial);
-        right = right & comes_right(call, bytes, given, wanted, source, filled, work);
+    for trial in 0..trials {
+        let call = trial_call(case, rebuilds, trial);
+        right = right & call_right(call, bytes, given, wanted, source, filled, work);
     }
     right
 }
 
-// Whether both functions refuse the case.
-fn both_refuse(
-    case: &[u8],
-    bytes: &[u8],
-    given: &[u8],
-    source: &mut [i32],
-    filled: &mut [i32],
-    work: &mut [i32],
-) -> bool {
-    let read = length_of(case, 0);
-    let fill = length_of(case, 1);
-    let scratch = length_of(case, 2);
-    let answer = word_at(case, ANSWER);
-    let rebuild = Call {
-        rebuilds: true,
-        answer: answer,
-        read: read,
-        filled: fill,
-        work: scratch,
-    };
-    let write = Call {
-        rebuilds: false,
-        answer: answer,
-        read: read,
-        filled: fill,
-        work: scratch,
-    };
-    comes_right(rebuild, bytes, given, given, source, filled, work)
-        & comes_right(write, bytes, given, given, source, filled, work)
+// Whether the case is as long as its head says, and its slices have room.
+fn whole(case: &[u8]) -> bool {
+    let n = length_of(case, 0);
+    let f = length_of(case, 1);
+    let w = length_of(case, 2);
+    let room = (n < SAMPLES) & (f < SAMPLES) & (w < SAMPLES);
+    let start = HEAD + word_at(case, RECORD) as usize;
+    if word_at(case, ANSWER) == 0 {
+        room & (f == n) & (w == n) & (case.len() == start + 8 * n)
+    } else {
+        room & (case.len() == start + 4 * n)
+    }
+}
+
+// Where the samples start that the writer reads: those expected of the other
+// function, or in a refused case the same.
+fn other(case: &[u8], start: usize, middle: usize) -> usize
+    requires { ⌜ start ≤ middle ⌝ }
+    ensures { λ r. ⌜ r ≤ middle ⌝ }
+{
+    if word_at(case, ANSWER) == 0 {
+        middle
+    } else {
+        start
+    }
 }
 
 // Whether the case's calls come out right. An accepted case is run both ways:
 // what one function reads is what the other must fill.
-fn agrees(case: &[u8], source: &mut [i32], filled: &mut [i32], work: &mut [i32]) -> bool {
-    let n = length_of(case, 0);
+fn agrees(case: &[u8], source: &mut [i32], filled: &mut [i32], work: &mut [i32]) -> bool
+    requires { ⌜ (131_072 ≤ length (now source)) × (131_072 ≤ length (now filled)) × (131_072 ≤ length (now work)) ⌝ }
+{
     let start = HEAD + word_at(case, RECORD) as usize;
-    let middle = start + 4 * n;
+    let middle = start + 4 * length_of(case, 0);
     if case.len() < middle {
         return false;
     }
     let bytes = &case[HEAD..start];
-    let given = &case[start..middle];
-    let wanted = &case[middle..];
-    if word_at(case, ANSWER) != 0 {
-        return (wanted.len() == 0) & both_refuse(case, bytes, given, source, filled, work);
-    }
-    if (length_of(case, 1) != n) | (length_of(case, 2) != n) | (wanted.len() != 4 * n) {
-        return false;
-    }
-    trials_right(true, n, bytes, given, wanted, source, filled, work)
-        & trials_right(false, n, bytes, wanted, given, source, filled, work)
+    let pyramid = &case[start..middle];
+    let picture = &case[other(case, start, middle)..];
+    let rebuilt = trials_right(case, true, bytes, pyramid, picture, source, filled, work);
+    let written = trials_right(case, false, bytes, picture, pyramid, source, filled, work);
+    whole(case) & rebuilt & written
 }
 
 // The next number of standard input; past its end 0.
@@ -354,13 +336,12 @@ fn replay_in(
     source: &mut [i32],
     filled: &mut [i32],
     work: &mut [i32],
-) -> u64 {
+) -> u64
+    requires { ⌜ (131_072 ≤ length (now source)) × (131_072 ≤ length (now filled)) × (131_072 ≤ length (now work)) ⌝ }
+{
     let mut right = 0u64;
     for _ in 0..cases {
         let n = read_case(space);
-        if n == 0 {
-            return right;
-        }
         if agrees(&space[0..n], source, filled, work) {
             right += 1;
         }

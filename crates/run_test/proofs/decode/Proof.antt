@@ -9,10 +9,13 @@ use Rattle.run_test.proofs.decode.Statement.{statement}
 use Rattle.run_test.proofs.decode.Tie as tie
 
 abbrev Inv-loop : tie.InvT-loop
-Inv-loop bytes s₀ i₀ i-end s i = (i ≤ i-end) × (i-end ≡ length s) × (length s ≡ length s₀)
+Inv-loop bytes s₀ to i₀ s i = (i ≤ to) × (to ≤ length s) × (length s ≡ length s₀)
 
 abbrev μ-loop : tie.MeasureT-loop
-μ-loop bytes s₀ i₀ i-end s i = i-end - i
+μ-loop bytes s₀ to i₀ s i = to - i
+
+returns : tie.Need-returns Inv-loop μ-loop
+returns c = search needs
 
 loop-holds : tie.Need-loop-holds Inv-loop μ-loop
 loop-holds c = search needs
@@ -23,8 +26,8 @@ mul-sample-at c = search needs
 sample-at-requires : tie.Need-sample-at-requires Inv-loop μ-loop
 sample-at-requires c κs = search needs
 
-mul-t8 : tie.Need-mul-t8 Inv-loop μ-loop
-mul-t8 c = search needs
+mul-t10 : tie.Need-mul-t10 Inv-loop μ-loop
+mul-t10 c = search needs
 
 slice-set-from-s : tie.Need-slice-set-from-s Inv-loop μ-loop
 slice-set-from-s c = search needs
@@ -41,8 +44,8 @@ loop-again c = simp length-set (omega arith)
 same-length : tie.Need-same-length Inv-loop μ-loop
 same-length c = search needs
 
-returns : tie.Need-returns Inv-loop μ-loop
-returns c = search needs
+returns-2 : tie.Need-returns-2 Inv-loop μ-loop
+returns-2 c = search needs
 
 pub decode-spec : {M : Type 1} → statement M
 decode-spec =
@@ -50,13 +53,14 @@ decode-spec =
     (tie.spec
     Inv-loop
     μ-loop
+    returns
     loop-holds
     mul-sample-at
     sample-at-requires
-    mul-t8
+    mul-t10
     slice-set-from-s
     add-i
     loop-less
     loop-again
     same-length
-    returns)
+    returns-2)

@@ -9,10 +9,13 @@ use Rattle.run_test.proofs.fill.Statement.{statement}
 use Rattle.run_test.proofs.fill.Tie as tie
 
 abbrev Inv-loop : tie.InvT-loop
-Inv-loop s₀ i₀ i-end s i = (i ≤ i-end) × (i-end ≡ length s) × (length s ≡ length s₀)
+Inv-loop s₀ to i₀ s i = (i ≤ to) × (to ≤ length s) × (length s ≡ length s₀)
 
 abbrev μ-loop : tie.MeasureT-loop
-μ-loop s₀ i₀ i-end s i = i-end - i
+μ-loop s₀ to i₀ s i = to - i
+
+returns : tie.Need-returns Inv-loop μ-loop
+returns c = search needs
 
 loop-holds : tie.Need-loop-holds Inv-loop μ-loop
 loop-holds c = search needs
@@ -20,8 +23,8 @@ loop-holds c = search needs
 mark-requires : tie.Need-mark-requires Inv-loop μ-loop
 mark-requires c κs = search needs
 
-mul-t6 : tie.Need-mul-t6 Inv-loop μ-loop
-mul-t6 c = search needs
+mul-t8 : tie.Need-mul-t8 Inv-loop μ-loop
+mul-t8 c = search needs
 
 slice-set-from-s : tie.Need-slice-set-from-s Inv-loop μ-loop
 slice-set-from-s c = search needs
@@ -38,8 +41,8 @@ loop-again c = simp length-set (omega arith)
 same-length : tie.Need-same-length Inv-loop μ-loop
 same-length c = search needs
 
-returns : tie.Need-returns Inv-loop μ-loop
-returns c = search needs
+returns-2 : tie.Need-returns-2 Inv-loop μ-loop
+returns-2 c = search needs
 
 pub fill-spec : {M : Type 1} → statement M
 fill-spec =
@@ -47,12 +50,13 @@ fill-spec =
     (tie.spec
     Inv-loop
     μ-loop
+    returns
     loop-holds
     mark-requires
-    mul-t6
+    mul-t8
     slice-set-from-s
     add-i
     loop-less
     loop-again
     same-length
-    returns)
+    returns-2)

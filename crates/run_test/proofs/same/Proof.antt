@@ -1,5 +1,4 @@
 -- `same` is safe and ends: one turn for each sample, and each place fits an index. Assumes nothing.
-use mathlib.Core.Path.{_≡_}
 use Prim.Native.Nat.{_-_, _≤_}
 use borrow.Author.Needs.{needs}
 use lib.ListN.{length}
@@ -7,10 +6,13 @@ use Rattle.run_test.proofs.same.Statement.{statement}
 use Rattle.run_test.proofs.same.Tie as tie
 
 abbrev Inv-loop : tie.InvT-loop
-Inv-loop bytes s right₀ i₀ i-end right i = (i ≤ i-end) × (i-end ≡ length s)
+Inv-loop bytes s to right₀ i₀ right i = (i ≤ to) × (to ≤ length s)
 
 abbrev μ-loop : tie.MeasureT-loop
-μ-loop bytes s right₀ i₀ i-end right i = i-end - i
+μ-loop bytes s to right₀ i₀ right i = to - i
+
+returns : tie.Need-returns Inv-loop μ-loop
+returns c = search needs
 
 loop-holds : tie.Need-loop-holds Inv-loop μ-loop
 loop-holds c = search needs
@@ -36,8 +38,8 @@ loop-less c = search needs
 loop-again : tie.Need-loop-again Inv-loop μ-loop
 loop-again c = search needs
 
-returns : tie.Need-returns Inv-loop μ-loop
-returns c = search needs
+returns-2 : tie.Need-returns-2 Inv-loop μ-loop
+returns-2 c = search needs
 
 pub same-spec : {M : Type 1} → statement M
 same-spec =
@@ -45,6 +47,7 @@ same-spec =
     (tie.spec
     Inv-loop
     μ-loop
+    returns
     loop-holds
     mul-right
     shared-slice-copy-out-right
@@ -53,4 +56,4 @@ same-spec =
     add-i
     loop-less
     loop-again
-    returns)
+    returns-2)

@@ -7,10 +7,13 @@ use Rattle.run_test.proofs.trials_right.Statement.{statement}
 use Rattle.run_test.proofs.trials_right.Tie as tie
 
 abbrev Inv-loop : tie.InvT-loop
-Inv-loop rebuilds n bytes given wanted source₀ filled₀ work₀ right₀ trial₀ source filled work right trial = (trial ≤ 7) × (length source ≡ length source₀) × (length filled ≡ length filled₀) × (length work ≡ length work₀)
+Inv-loop case rebuilds bytes given wanted source₀ filled₀ work₀ trials right₀ trial₀ source filled work right trial = (trial ≤ trials) × (trials ≤ 7) × (length source ≡ length source₀) × (length filled ≡ length filled₀) × (length work ≡ length work₀)
 
 abbrev μ-loop : tie.MeasureT-loop
-μ-loop rebuilds n bytes given wanted source₀ filled₀ work₀ right₀ trial₀ source filled work right trial = 7 - trial
+μ-loop case rebuilds bytes given wanted source₀ filled₀ work₀ trials right₀ trial₀ source filled work right trial = trials - trial
+
+trials-of-requires : tie.Need-trials-of-requires Inv-loop μ-loop
+trials-of-requires c κs = search needs
 
 loop-holds : tie.Need-loop-holds Inv-loop μ-loop
 loop-holds c = search needs
@@ -18,8 +21,8 @@ loop-holds c = search needs
 trial-call-requires : tie.Need-trial-call-requires Inv-loop μ-loop
 trial-call-requires c κs = search needs
 
-comes-right-requires : tie.Need-comes-right-requires Inv-loop μ-loop
-comes-right-requires c κs = search needs
+call-right-requires : tie.Need-call-right-requires Inv-loop μ-loop
+call-right-requires c κs = search needs
 
 add-trial : tie.Need-add-trial Inv-loop μ-loop
 add-trial c = search needs
@@ -48,9 +51,10 @@ trials-right-spec =
     (tie.spec
     Inv-loop
     μ-loop
+    trials-of-requires
     loop-holds
     trial-call-requires
-    comes-right-requires
+    call-right-requires
     add-trial
     loop-less
     loop-again
