@@ -6,8 +6,8 @@ usage: tests/lists.py LIST.TXT DEFAULT.TXT > crates/list_test/stdin
 LIST.TXT and DEFAULT.TXT are answers of the published Rust, one case to a line: `list CHANNELS | STEPS => ok LIST /
 LIST ..`, where a refused step ends the answer with `error NAME`, and `default CHANNELS => ok STEPS` or `panic`. A
 channel is `W H HS VS` or `W H m m`, a step `h|v in|out FIRST NUMBER`. Document 01 refuses some of what the Rust lets
-through: INSTEAD has every such difference. The other cases are made here by document 01's rules, those that it names
-itself as rows with the answer written out.
+through: INSTEAD has every such difference. The other cases are made here by document 01's rules (rules.py), those that it
+names itself as rows with the answer written out.
 
 The stream is samples of four bytes, least byte first. A case is its source (1 the Rust, 2 the rules), its kind (1 to 4
 as below), how many samples follow, and these:
@@ -24,17 +24,14 @@ and the last entry that follows stands for the rest of its array too.
 import struct
 import sys
 
-MAX_CHANNELS, MAX_STEPS, MAX_SAMPLES, MAX_SHIFT, META, STOPPING_SIDE = 256, 64, 16_777_216, 30, 255, 8
+import rules
+from rules import MAX_CHANNELS, MAX_SAMPLES, MAX_SHIFT, MAX_STEPS, META, STOP, default_plan, is_meta, total
+
 RUST, OWN = 1, 2
 STEP, PLAN, DEFAULT, COARSE = 1, 2, 3, 4
 PROGRAM_READS = 524_288
 
-# ---- document 01's rules. A channel is (width, height, hshift, vshift), a step (horizontal, in place, first, number).
-is_meta = lambda c: c[2] == META and c[3] == META
-halved = lambda side: (side + 1) // 2
-total = lambda channels: sum(w * h for w, h, _, _ in channels)
-
-
+# ---- document 01's rules, over those of rules.py, with a refusal's number as the answer
 def judge_list(channels):
     if not 1 <= len(channels) <= MAX_CHANNELS:
         return 3
@@ -45,58 +42,16 @@ def judge_list(channels):
     return 5 if total(channels) > MAX_SAMPLES else 0
 
 
-def raised(horizontal, c):
-    w, h, hs, vs = c
-    return c if is_meta(c) else (w, h, hs + 1, vs) if horizontal else (w, h, hs, vs + 1)
+def take_step(step, channels):
+    return rules.step(channels, *step)
 
 
 def judge_step(step, channels):
-    horizontal, inplace, first, number = step
-    if number < 1 or first + number > len(channels):
-        return 6
-    part = channels[first:first + number]
-    if is_meta(part[0]) != is_meta(part[-1]):
-        return 7
-    if is_meta(part[0]) and not inplace:
-        return 8
-    if any(w == 0 or h == 0 for w, h, _, _ in part):
-        return 9
-    shifts = [raised(horizontal, c) for c in part if not is_meta(c)]
-    if len(channels) + number > MAX_CHANNELS or any(max(c[2:]) > MAX_SHIFT for c in shifts):
-        return 10
-    return 0
-
-
-def take_step(step, channels):
-    horizontal, inplace, first, number = step
-    averages, residuals = [], []
-    for w, h, hs, vs in channels[first:first + number]:
-        a = (halved(w), h, hs, vs) if horizontal else (w, halved(h), hs, vs)
-        r = (w - halved(w), h, hs, vs) if horizontal else (w, h - halved(h), hs, vs)
-        averages.append(raised(horizontal, a))
-        residuals.append(raised(horizontal, r))
-    before, after = channels[:first], channels[first + number:]
-    return before + averages + (residuals + after if inplace else after + residuals)
-
-
-def default_steps(channels):
-    m = next(k for k, c in enumerate(channels) if not is_meta(c))
-    n = len(channels) - m
-    w, h = channels[m][:2]
-    steps = []
-    if n > 2 and channels[m + 1][:2] == (w, h):
-        steps += [(horizontal, 0, m + 1, 2) for horizontal, side in ((1, w), (0, h)) if side > 1]
-    if w <= h and h > STOPPING_SIDE:
-        steps.append((0, 1, m, n))
-        h = halved(h)
-    while max(w, h) > STOPPING_SIDE:
-        if w > STOPPING_SIDE:
-            steps.append((1, 1, m, n))
-            w = halved(w)
-        if h > STOPPING_SIDE:
-            steps.append((0, 1, m, n))
-            h = halved(h)
-    return steps
+    try:
+        take_step(step, channels)
+        return 0
+    except rules.Refused as refusal:
+        return refusal.args[0]
 
 
 # ---- a list as flat arrays hold it: a count, and entries of which those past the count mean nothing
@@ -131,7 +86,7 @@ def judge_plan(flat, plan):
         return form, flat
     if count == 0 and all(is_meta(c) for c in channels):
         return 11, flat
-    steps = [(flags % 2, flags // 2, f, n) for flags, f, n in entries[:count]] or default_steps(channels)
+    steps = [(flags % 2, flags // 2, f, n) for flags, f, n in entries[:count]] or default_plan(channels)
     for step in steps:
         answer = judge_step(step, channels)
         if answer:
@@ -181,7 +136,7 @@ def put_default(source, flat, answer, plan):
 
 def put_coarse(flat):
     sides = [max(c[:2]) for c in meant(flat)]
-    coarse = [side <= STOPPING_SIDE for side in sides]
+    coarse = [side <= STOP for side in sides]
     put(OWN, COARSE, list_samples(flat), [coarse.index(False) if False in coarse else len(coarse)])
 
 
@@ -264,7 +219,7 @@ def own_plan(flat, plan):
 def own_default(flat):
     channels = meant(flat)
     answer = judge_flat(flat) or (11 if all(map(is_meta, channels)) else 0)
-    put_default(OWN, flat, answer, plan_of([] if answer else default_steps(channels)))
+    put_default(OWN, flat, answer, plan_of([] if answer else default_plan(channels)))
     own_plan(flat, plan_of([]))
     return answer
 

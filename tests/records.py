@@ -3,8 +3,9 @@
 
 usage: tests/records.py > crates/record_test/stdin
 
-The rules are written here from document 01 alone: a record read field by field, questions 1 to 11 in their order, the
-default plan, a step on a list and the coarse count. The record that the document prints is held against its text first.
+The rules are those of rules.py, written from document 01 alone: a record read field by field, questions 1 to 11 in their
+order, the default plan and a step on a list; the coarse count is here. The record that the document prints is held
+against its text first.
 
 The stream has for each kind of KINDS the number of its cases and the cases. A case is the number of a record's bytes,
 the record, the number of its text's bytes and the text. A number has four bytes, least byte first. The number of cases
@@ -13,94 +14,9 @@ of each kind goes to standard error.
 import struct
 import sys
 
+from rules import STOP, Refused, channel, field, is_meta, layouts, meaning, meta
+
 KINDS = {kind: [] for kind in ['printed', 'cuts', 'refusals', 'order', 'limits', 'sizes', 'metas', 'plans', 'bytes']}
-MAX_CHANNELS, MAX_STEPS, MAX_SAMPLES, MAX_SHIFT, META, STOP = 256, 64, 16_777_216, 30, 255, 8
-
-
-class Refused(Exception):
-    pass
-
-
-def ask(answer, number):
-    if not answer:
-        raise Refused(number)
-
-
-# Questions 1 to 4, field by field.
-
-def read(record):
-    channels, steps, at = [], [], 0
-    while at < len(record):
-        ask(at + 3 <= len(record), 1)
-        tag, length = record[at], record[at + 1] + 256 * record[at + 2]
-        body = record[at + 3:at + 3 + length]
-        ask(len(body) == length, 1)
-        ask((tag, length) in [(1, 6), (2, 5)] and not (tag == 1 and steps), 2)
-        if tag == 1:
-            ask(len(channels) < MAX_CHANNELS, 3)
-            w, h, sh, sv = struct.unpack('<HHBB', body)
-            ask((sh <= MAX_SHIFT and sv <= MAX_SHIFT) or sh == sv == META, 4)
-            ask(sh != META or all(is_meta(c) for c in channels), 4)
-            channels.append((w, h, sh, sv))
-        else:
-            ask(len(steps) < MAX_STEPS, 3)
-            flags, first, number = struct.unpack('<BHH', body)
-            ask(flags < 4, 4)
-            steps.append((flags % 2 == 1, flags // 2 == 1, first, number))
-        at += 3 + length
-    ask(channels, 3)
-    return channels, steps
-
-
-def is_meta(c):
-    return c[2] == c[3] == META
-
-
-# "Default plan (reference `default_squeeze`)".
-
-def default_plan(channels):
-    m = sum(is_meta(c) for c in channels)
-    n = len(channels) - m
-    ask(n > 0, 11)
-    w, h = channels[m][:2]
-    steps = []
-    if n > 2 and channels[m + 1][:2] == (w, h):
-        steps += [(True, False, m + 1, 2)] * (w > 1) + [(False, False, m + 1, 2)] * (h > 1)
-    if w <= h and h > STOP:
-        steps.append((False, True, m, n))
-        h = (h + 1) // 2
-    while w > STOP or h > STOP:
-        if w > STOP:
-            steps.append((True, True, m, n))
-            w = (w + 1) // 2
-        if h > STOP:
-            steps.append((False, True, m, n))
-            h = (h + 1) // 2
-    return steps
-
-
-# Questions 7 to 11, and the list that a step leaves.
-
-def part(c, horizontal, rest):
-    w, h, sh, sv = c
-    side = w if horizontal else h
-    half = side // 2 if rest else side - side // 2
-    raised = (sh, sv) if is_meta(c) else (sh + horizontal, sv + (not horizontal))
-    return ((half, h) if horizontal else (w, half)) + raised
-
-
-def step(channels, horizontal, inplace, first, number):
-    end = first + number
-    ask(number >= 1 and end <= len(channels), 6)
-    ask(is_meta(channels[first]) == is_meta(channels[end - 1]), 7)
-    ask(inplace or not is_meta(channels[first]), 8)
-    ask(all(c[0] > 0 and c[1] > 0 for c in channels[first:end]), 9)
-    averages = [part(c, horizontal, False) for c in channels[first:end]]
-    residuals = [part(c, horizontal, True) for c in channels[first:end]]
-    ask(len(channels) + number <= MAX_CHANNELS, 10)
-    ask(all(is_meta(c) or max(c[2:]) <= MAX_SHIFT for c in averages), 10)
-    after = channels[end:]
-    return channels[:first] + averages + (residuals + after if inplace else after + residuals)
 
 
 # The program squeeze-list.
@@ -108,8 +24,7 @@ def step(channels, horizontal, inplace, first, number):
 def text(channels, steps):
     lines = [f'steps {len(steps)}']
     lines += [f'{"h" if s[0] else "v"} {"in" if s[1] else "out"} {s[2]} {s[3]}' for s in steps]
-    for s in steps:
-        channels = step(channels, *s)
+    channels = layouts(channels, steps)[-1]
     lines.append(f'channels {len(channels)}')
     lines += [f'{c[0]} {c[1]} m m' if is_meta(c) else '%d %d %d %d' % c for c in channels]
     coarse = next((k for k, c in enumerate(channels) if max(c[:2]) > STOP), len(channels))
@@ -118,26 +33,12 @@ def text(channels, steps):
 
 def listing(record):
     try:
-        channels, steps = read(record)
-        ask(sum(c[0] * c[1] for c in channels) <= MAX_SAMPLES, 5)
-        return text(channels, steps or default_plan(channels))
+        return text(*meaning(record))
     except Refused as refusal:
         return f'refused {refusal}\n'
 
 
 # Records.
-
-def channel(w, h, sh=0, sv=0):
-    return struct.pack('<BHHHBB', 1, 6, w, h, sh, sv)
-
-
-def meta(w, h):
-    return channel(w, h, META, META)
-
-
-def field(flags, first, number):
-    return struct.pack('<BHBHH', 2, 5, flags, first, number)
-
 
 def case(kind, record, refusal=None):
     """`refusal`, where it is given, is what the case is there to show; 0 is none."""
@@ -149,14 +50,22 @@ def case(kind, record, refusal=None):
 
 PRINTED = channel(20, 9)
 TEXT = 'steps 3\nh in 0 1\nv in 0 1\nh in 0 1\nchannels 4\n5 5 2 1\n5 5 2 1\n10 4 1 1\n10 9 1 0\ncoarse 2\n'
-assert listing(PRINTED) == TEXT
-case('printed', PRINTED, 0)
+
+
+def printed():
+    assert listing(PRINTED) == TEXT
+    case('printed', PRINTED, 0)
+
 
 # A record cut at every byte: inside a field 1, at a field's end whatever the fields before it give.
-long = meta(3, 5) + channel(20, 9) + channel(20, 9, 1, 2) + field(3, 1, 2) + field(0, 1, 3) + field(2, 0, 1)
-for n in range(len(long) + 1):
-    inside = n in (0, 9, 18, 27, 35, 43, 51)
-    case('cuts', long[:n], None if inside else 1)
+LONG = meta(3, 5) + channel(20, 9) + channel(20, 9, 1, 2) + field(3, 1, 2) + field(0, 1, 3) + field(2, 0, 1)
+
+
+def cuts():
+    for n in range(len(LONG) + 1):
+        inside = n in (0, 9, 18, 27, 35, 43, 51)
+        case('cuts', LONG[:n], None if inside else 1)
+
 
 REFUSALS = {
     1: [channel(1, 1)[:8], channel(1, 1) + b'\x02\x05', b'\x07\xff\xff'],
@@ -176,9 +85,13 @@ REFUSALS = {
          channel(9, 9) * 130 + field(1, 0, 127)],
     11: [meta(9, 9), meta(1, 1) * 256],
 }
-for number, records in REFUSALS.items():
-    for record in records:
-        case('refusals', record, number)
+
+
+def refusals():
+    for number, records in REFUSALS.items():
+        for record in records:
+            case('refusals', record, number)
+
 
 # Two questions broken at once: the first in the paper's order is the refusal; in a form, the first field's.
 ORDER = [
@@ -196,83 +109,105 @@ ORDER = [
     (9, channel(0, 9, 30, 30) + field(3, 0, 1)), (9, channel(0, 2) * 256 + field(3, 0, 1)),
     (9, channel(0, 9) + field(3, 0, 1) + field(3, 9, 9)), (6, channel(9, 9) + field(3, 9, 9) + field(0, 0, 0)),
 ]
-for number, record in ORDER:
-    case('order', record, number)
+
+
+def order():
+    for number, record in ORDER:
+        case('order', record, number)
+
 
 # Limits: 64 and 65 steps, 256 and 257 channels, shifts 30 and 31, the range's end at and past the count, samples.
-small = channel(8, 8)
-for steps in (1, 63, 64, 65, 66):
-    case('limits', b''.join(channel(k + 1, 2) for k in range(66)) + b''.join(field(0, k, 1) for k in range(steps)), 0 if steps < 65 else 3)
-    case('limits', channel(1, 1) + field(3, 0, 1) * steps, 0 if steps < 31 else 10 if steps < 65 else 3)
-    case('limits', channel(65535, 1, 10, 10) * 192 + b''.join(field(1, 100 + k, 1) for k in range(steps)), 0 if steps < 65 else 3)
-for count in (1, 2, 3, 128, 129, 252, 253, 255, 256, 257, 258):
-    case('limits', channel(1, 1) * count, 0 if count < 257 else 3)
-    case('limits', small * count, 0 if count < 253 else 10 if count < 257 else 3)
-    case('limits', small * count + field(3, 0, 1), 0 if count < 256 else 10 if count == 256 else 3)
-    case('limits', small * count + field(1, 0, min(count, 128)), 0 if count <= 128 else 10 if count <= 256 else 3)
-for shift in (0, 1, 29, 30, 31, 32, 254, 255):
-    for record in (channel(8, 8, shift, 0), channel(8, 8, 0, shift), channel(8, 8, shift, shift),
-                   channel(9, 8, shift, 0), channel(8, 9, 0, shift)):
-        case('limits', record)
-        case('limits', record + field(3, 0, 1))
-        case('limits', record + field(0, 0, 1))
-for first in range(6):
-    for number in range(6):
-        for flags in range(4):
-            case('limits', small * 4 + field(flags, first, number), 0 if number and first + number <= 4 else 6)
-for w, h, refusal in ((4096, 4096, 0), (4096, 4097, 5), (65535, 256, 0), (65535, 257, 5), (256, 65535, 0), (65535, 1, 0)):
-    case('limits', channel(w, h), refusal)
+
+def limits():
+    small = channel(8, 8)
+    for steps in (1, 63, 64, 65, 66):
+        case('limits', b''.join(channel(k + 1, 2) for k in range(66)) + b''.join(field(0, k, 1) for k in range(steps)), 0 if steps < 65 else 3)
+        case('limits', channel(1, 1) + field(3, 0, 1) * steps, 0 if steps < 31 else 10 if steps < 65 else 3)
+        case('limits', channel(65535, 1, 10, 10) * 192 + b''.join(field(1, 100 + k, 1) for k in range(steps)), 0 if steps < 65 else 3)
+    for count in (1, 2, 3, 128, 129, 252, 253, 255, 256, 257, 258):
+        case('limits', channel(1, 1) * count, 0 if count < 257 else 3)
+        case('limits', small * count, 0 if count < 253 else 10 if count < 257 else 3)
+        case('limits', small * count + field(3, 0, 1), 0 if count < 256 else 10 if count == 256 else 3)
+        case('limits', small * count + field(1, 0, min(count, 128)), 0 if count <= 128 else 10 if count <= 256 else 3)
+    for shift in (0, 1, 29, 30, 31, 32, 254, 255):
+        for record in (channel(8, 8, shift, 0), channel(8, 8, 0, shift), channel(8, 8, shift, shift),
+                       channel(9, 8, shift, 0), channel(8, 9, 0, shift)):
+            case('limits', record)
+            case('limits', record + field(3, 0, 1))
+            case('limits', record + field(0, 0, 1))
+    for first in range(6):
+        for number in range(6):
+            for flags in range(4):
+                case('limits', small * 4 + field(flags, first, number), 0 if number and first + number <= 4 else 6)
+    for w, h, refusal in ((4096, 4096, 0), (4096, 4097, 5), (65535, 256, 0), (65535, 257, 5), (256, 65535, 0), (65535, 1, 0)):
+        case('limits', channel(w, h), refusal)
+
 
 # Sides 0, 1, 2 and about the stopping side and its doubles.
-for w in (0, 1, 2, 7, 8, 9, 16, 17, 33, 65535):
-    for h in (0, 1, 2, 7, 8, 9, 16, 17, 33):
-        case('sizes', channel(w, h))
-        case('sizes', channel(w, h) * 3)
-        for flags in range(4):
-            case('sizes', channel(w, h) + field(flags, 0, 1))
+
+def sizes():
+    for w in (0, 1, 2, 7, 8, 9, 16, 17, 33, 65535):
+        for h in (0, 1, 2, 7, 8, 9, 16, 17, 33):
+            case('sizes', channel(w, h))
+            case('sizes', channel(w, h) * 3)
+            for flags in range(4):
+                case('sizes', channel(w, h) + field(flags, 0, 1))
+
 
 # Meta channels: before the others, squeezed, all of them.
-for m in range(4):
-    for n in range(5):
-        record = meta(20, 3) * m + channel(20, 9) * n
-        case('metas', record)
-        for flags in range(4):
-            for first, number in ((0, 1), (0, m), (m, n), (0, m + n), (m - 1, 2)):
-                if first >= 0:
-                    case('metas', record + field(flags, first, number))
+
+def metas():
+    for m in range(4):
+        for n in range(5):
+            record = meta(20, 3) * m + channel(20, 9) * n
+            case('metas', record)
+            for flags in range(4):
+                for first, number in ((0, 1), (0, m), (m, n), (0, m + n), (m - 1, 2)):
+                    if first >= 0:
+                        case('metas', record + field(flags, first, number))
+
 
 # Default plans of three and more channels, alike or not, and longer plans on them.
-for second in ((40, 30), (20, 30), (40, 15), (20, 15), (1, 1)):
-    for third in ((40, 30), (20, 15)):
-        for metas in range(3):
-            record = meta(5, 5) * metas + channel(40, 30) + channel(*second) + channel(*third)
-            case('plans', record)
-            case('plans', record + channel(40, 30))
-            for flags in range(4):
-                case('plans', record + field(flags, metas + 1, 2) + field(3 - flags, metas, 1))
-                case('plans', record + field(flags, metas, 3) + field(flags ^ 2, metas, 2) + field(flags ^ 1, metas + 2, 3))
-for sides in ((1, 40), (40, 1), (2, 2), (1, 1), (1, 2), (2, 1)):
-    case('plans', channel(*sides) * 3, 0)
+
+def plans():
+    for second in ((40, 30), (20, 30), (40, 15), (20, 15), (1, 1)):
+        for third in ((40, 30), (20, 15)):
+            for metas in range(3):
+                record = meta(5, 5) * metas + channel(40, 30) + channel(*second) + channel(*third)
+                case('plans', record)
+                case('plans', record + channel(40, 30))
+                for flags in range(4):
+                    case('plans', record + field(flags, metas + 1, 2) + field(3 - flags, metas, 1))
+                    case('plans', record + field(flags, metas, 3) + field(flags ^ 2, metas, 2) + field(flags ^ 1, metas + 2, 3))
+    for sides in ((1, 40), (40, 1), (2, 2), (1, 1), (1, 2), (2, 1)):
+        case('plans', channel(*sides) * 3, 0)
+
 
 # Long inputs, and each value of a byte of the printed record.
-case('bytes', b'', 3)
-for n in (4095, 4096, 4097, 5000):
-    case('bytes', (channel(1, 1) * 600)[:n], 3)
-    case('bytes', channel(1, 1) + (field(3, 0, 1) * 600)[:n - 9], 3)
-    case('bytes', b'\x01\x06\x00' + bytes(n - 3), 2)
-    case('bytes', struct.pack('<BH', 9, n - 3) + bytes(n - 3), 2)
-    case('bytes', struct.pack('<BH', 9, n - 2) + bytes(n - 3), 1)
-for at in range(len(PRINTED)):
-    for value in range(256):
-        case('bytes', PRINTED[:at] + bytes([value]) + PRINTED[at + 1:])
-for at in range(8):
-    for value in (0, 1, 2, 3, 4, 5, 6, 128, 255):
-        step_bytes = field(3, 0, 1)
-        case('bytes', PRINTED + step_bytes[:at] + bytes([value]) + step_bytes[at + 1:])
 
-out = sys.stdout.buffer
-for kind, cases in KINDS.items():
-    out.write(struct.pack('<I', len(cases)))
-    for record, expected in cases:
-        out.write(struct.pack('<I', len(record)) + record + struct.pack('<I', len(expected)) + expected)
-    print(kind, len(cases), 'refused', sum(e.startswith(b'refused') for _, e in cases), file=sys.stderr)
+def byte_values():
+    case('bytes', b'', 3)
+    for n in (4095, 4096, 4097, 5000):
+        case('bytes', (channel(1, 1) * 600)[:n], 3)
+        case('bytes', channel(1, 1) + (field(3, 0, 1) * 600)[:n - 9], 3)
+        case('bytes', b'\x01\x06\x00' + bytes(n - 3), 2)
+        case('bytes', struct.pack('<BH', 9, n - 3) + bytes(n - 3), 2)
+        case('bytes', struct.pack('<BH', 9, n - 2) + bytes(n - 3), 1)
+    for at in range(len(PRINTED)):
+        for value in range(256):
+            case('bytes', PRINTED[:at] + bytes([value]) + PRINTED[at + 1:])
+    for at in range(8):
+        for value in (0, 1, 2, 3, 4, 5, 6, 128, 255):
+            step_bytes = field(3, 0, 1)
+            case('bytes', PRINTED + step_bytes[:at] + bytes([value]) + step_bytes[at + 1:])
+
+
+if __name__ == '__main__':
+    for make in (printed, cuts, refusals, order, limits, sizes, metas, plans, byte_values):
+        make()
+    out = sys.stdout.buffer
+    for kind, cases in KINDS.items():
+        out.write(struct.pack('<I', len(cases)))
+        for record, expected in cases:
+            out.write(struct.pack('<I', len(record)) + record + struct.pack('<I', len(expected)) + expected)
+        print(kind, len(cases), 'refused', sum(e.startswith(b'refused') for _, e in cases), file=sys.stderr)

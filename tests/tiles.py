@@ -4,8 +4,9 @@
 usage: tests/tiles.py TILE.TXT > crates/tile_test/stdin
 
 TILE.TXT has the published Rust's answers, one case to a line, `tile h|v AW AH RW RH NEXT PREV OW OH | averages |
-residuals | next line | previous line => ok SAMPLES`. What else is expected is computed here, index by index, from
-document 01's words and the standard's formulas; the published answers are held against that rule first.
+residuals | next line | previous line => ok SAMPLES`. What else is expected is computed here, index by index, by the
+line of rules.py, from document 01's words and the standard's formulas; the published answers are held against that
+rule first.
 
 The stream has for each kind of KINDS the number of its cases and the cases. A case is the number of its bytes, a head,
 the samples of averages, residuals, next line and previous line, and, where the answer is 0, those of the output. The
@@ -17,44 +18,12 @@ import random
 import struct
 import sys
 
+from rules import MAX_SAMPLES, line
+
 KINDS = {kind: [] for kind in
          ['published', 'table', 'sizes', 'limits', 'areas', 'misfits', 'lengths', 'order', 'cuts']}
-MAX_SAMPLES = 16_777_216
 MAX_SIDE = 65_535
 dice = random.Random()
-
-
-# Document 01, "The pair" and "Tiles".
-
-def wrap(z):
-    return (z + 2**31) % 2**32 - 2**31
-
-
-def tendency(a, b, c):
-    x, y, z = wrap(a - b), wrap(b - c), wrap(a - c)
-    if x < 0 < y or y < 0 < x:
-        return 0
-    p, q, r = wrap(abs(x)), wrap(abs(y)), wrap(abs(z))
-    t = p * 0x55555556 >> 32
-    v = wrap(2 + r + t) >> 2
-    if v > wrap(2 * p + (v & 1)):
-        v = wrap(2 * p + 1)
-    if wrap(v + (v & 1)) > wrap(2 * q):
-        v = wrap(2 * q)
-    return wrap(-v) if z < 0 else v
-
-
-def line(avg, res, following, before):
-    """A line's samples; `following` and `before` are lists of one sample of the outer lines, or empty."""
-    m, n, out = len(avg), len(res), []
-    for i in range(n):
-        after = avg[i + 1] if i + 1 < m else (following or [avg[i]])[0]
-        left = out[2 * i - 1] if i > 0 else (before or [avg[0]])[0]
-        d = wrap(res[i] + tendency(left, avg[i], after))
-        half = d // 2 if d >= 0 else -(-d // 2)
-        first = wrap(avg[i] + half)
-        out += [first, wrap(first - d)]
-    return out + avg[n:]
 
 
 class Squeeze:

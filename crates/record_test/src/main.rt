@@ -8,15 +8,13 @@ ghost use lib.ListN.{length};
 use libc::STDIN_FILENO;
 use libc::STDOUT_FILENO;
 use listing::LISTING_ROOM;
+use numbers::REFUSED_LENGTH;
 
 // Room for a record, and for what is written with something around it.
 const RECORD_ROOM: usize = 6144;
 
 // What stands in the room where nothing was written.
 const MARK: u8 = 0xa5;
-
-// The refusal of a slice that is too short.
-const REFUSED_SLICE: u32 = 12;
 
 fn fill(s: &mut [u8]) {
     for i in 0..s.len() {
@@ -63,7 +61,7 @@ fn lists(bytes: &[u8], text: &[u8], room: &mut [u8]) -> bool {
     }
     fill(room);
     let short = listing::list_record(bytes, &mut room[0..n - 1]);
-    if (short.answer != REFUSED_SLICE) | (short.length != 0) | !kept(room) {
+    if (short.answer != REFUSED_LENGTH) | (short.length != 0) | !kept(room) {
         return false;
     }
     let listed = listing::list_record(bytes, room);
@@ -85,7 +83,7 @@ fn writes_back(bytes: &[u8], room: &mut [u8]) -> bool {
     }
     fill(room);
     let short = record::write_record(read.list, read.steps, &mut room[0..n - 1]);
-    if (short.answer != REFUSED_SLICE) | (short.length != 0) | !kept(room) {
+    if (short.answer != REFUSED_LENGTH) | (short.length != 0) | !kept(room) {
         return false;
     }
     let written = record::write_record(read.list, read.steps, room);

@@ -1,0 +1,59 @@
+-- `same` is safe and ends: one turn for each sample, and each place fits an index. Assumes nothing.
+use Prim.Native.Nat.{_-_, _≤_}
+use borrow.Author.Needs.{needs}
+use lib.ListN.{length}
+use Rattle.run_test.proofs.same.Statement.{statement}
+use Rattle.run_test.proofs.same.Tie as tie
+
+abbrev Inv-loop : tie.InvT-loop
+Inv-loop bytes s to right₀ i₀ right i = (i ≤ to) × (to ≤ length s)
+
+abbrev μ-loop : tie.MeasureT-loop
+μ-loop bytes s to right₀ i₀ right i = to - i
+
+returns : tie.Need-returns Inv-loop μ-loop
+returns c = search needs
+
+loop-holds : tie.Need-loop-holds Inv-loop μ-loop
+loop-holds c = search needs
+
+mul-right : tie.Need-mul-right Inv-loop μ-loop
+mul-right c = search needs
+
+shared-slice-copy-out-right : tie.Need-shared-slice-copy-out-right Inv-loop μ-loop
+shared-slice-copy-out-right c = search needs
+
+mul-sample-at : tie.Need-mul-sample-at Inv-loop μ-loop
+mul-sample-at c = search needs
+
+sample-at-requires : tie.Need-sample-at-requires Inv-loop μ-loop
+sample-at-requires c κs = search needs
+
+add-i : tie.Need-add-i Inv-loop μ-loop
+add-i c = search needs
+
+loop-less : tie.Need-loop-less Inv-loop μ-loop
+loop-less c = search needs
+
+loop-again : tie.Need-loop-again Inv-loop μ-loop
+loop-again c = search needs
+
+returns-2 : tie.Need-returns-2 Inv-loop μ-loop
+returns-2 c = search needs
+
+pub same-spec : {M : Type 1} → statement M
+same-spec =
+    tie.close
+    (tie.spec
+    Inv-loop
+    μ-loop
+    returns
+    loop-holds
+    mul-right
+    shared-slice-copy-out-right
+    mul-sample-at
+    sample-at-requires
+    add-i
+    loop-less
+    loop-again
+    returns-2)
