@@ -90,24 +90,12 @@ fn writes_back(bytes: &[u8], room: &mut [u8]) -> bool {
     (written.answer == 0) & (written.length == n) & begins(room, bytes)
 }
 
-fn byte_at(bytes: &[u8], at: usize) -> u32
-    ensures { λ r. ⌜ r < 256 ⌝ }
-{
-    if at < bytes.len() {
-        bytes[at] as u32
-    } else {
-        0
-    }
-}
-
 // The next number of standard input, four bytes, least byte first; past its end
 // 0.
 fn read_word() -> u32 {
     let mut bytes = [0u8; 4];
     io::read_full(STDIN_FILENO, &mut bytes);
-    let low = byte_at(&bytes, 0) + 0x100 * byte_at(&bytes, 1);
-    let high = byte_at(&bytes, 2) + 0x100 * byte_at(&bytes, 3);
-    low + 0x1_0000 * high
+    samples::word_at(&bytes, 0)
 }
 
 // Puts the next bytes at the start of `space`; how many, or 0 if they are not

@@ -5,28 +5,22 @@ use channel::Channel;
 use libc::STDIN_FILENO;
 use libc::STDOUT_FILENO;
 use rect::GridRect;
-use samples::sample_at;
+use samples::word_at;
 
 // A case of `stdin`: the channel's width, height and two shifts, the output
 // kind, the stored kind, the group dimension and the position, then the
 // answer's five numbers, four bytes each.
 const CASE: usize = 56;
 
-// The number at `at`; one that is negative as a sample is 0.
-fn number_at(bytes: &[u8], at: usize) -> u32 {
-    let z = sample_at(bytes, at);
-    if z < 0 { 0 } else { z as u32 }
-}
-
 // The number at `at` as 16 bits; a larger one is the largest.
 fn side_at(bytes: &[u8], at: usize) -> u16 {
-    let n = number_at(bytes, at);
+    let n = word_at(bytes, at);
     if n < 0x1_0000 { n as u16 } else { 0xFFFF }
 }
 
 // The number at `at` as 8 bits; a larger one is the largest.
 fn byte_at(bytes: &[u8], at: usize) -> u8 {
-    let n = number_at(bytes, at);
+    let n = word_at(bytes, at);
     if n < 0x100 { n as u8 } else { 0xFF }
 }
 
@@ -35,11 +29,11 @@ fn is_at(bytes: &[u8], at: usize, r: GridRect) -> bool {
     if bytes.len() < at {
         return false;
     }
-    (r.answer == number_at(bytes, at))
-        & (r.x == number_at(bytes, at + 4))
-        & (r.y == number_at(bytes, at + 8))
-        & (r.width == number_at(bytes, at + 12))
-        & (r.height == number_at(bytes, at + 16))
+    (r.answer == word_at(bytes, at))
+        & (r.x == word_at(bytes, at + 4))
+        & (r.y == word_at(bytes, at + 8))
+        & (r.width == word_at(bytes, at + 12))
+        & (r.height == word_at(bytes, at + 16))
 }
 
 // Whether the case that starts at `at` comes out right.
@@ -57,7 +51,7 @@ fn case_agrees(bytes: &[u8], at: usize) -> bool {
         channel,
         byte_at(bytes, at + 16),
         byte_at(bytes, at + 20),
-        number_at(bytes, at + 24),
+        word_at(bytes, at + 24),
         side_at(bytes, at + 28),
         side_at(bytes, at + 32),
     );

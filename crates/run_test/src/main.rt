@@ -10,6 +10,7 @@ use libc::STDIN_FILENO;
 use libc::STDOUT_FILENO;
 use numbers::REFUSED_LENGTH;
 use samples::sample_at;
+use samples::word_at;
 
 // The head of a case, by bytes: the answer, the record's length in bytes and the
 // lengths in samples of the slices that are read, filled and for work. The record
@@ -47,26 +48,6 @@ struct Call {
     read: usize,
     filled: usize,
     work: usize,
-}
-
-fn byte_at(bytes: &[u8], at: usize) -> u32
-    ensures { λ r. ⌜ r < 256 ⌝ }
-{
-    if at < bytes.len() {
-        bytes[at] as u32
-    } else {
-        0
-    }
-}
-
-// The number of four bytes that starts at `at`, least byte first.
-fn word_at(bytes: &[u8], at: usize) -> u32 {
-    if bytes.len() <= at {
-        return 0;
-    }
-    let low = byte_at(bytes, at) + 0x100 * byte_at(bytes, at + 1);
-    let high = byte_at(bytes, at + 2) + 0x100 * byte_at(bytes, at + 3);
-    low + 0x1_0000 * high
 }
 
 // The length of slice `k`.

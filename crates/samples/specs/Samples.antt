@@ -1,4 +1,4 @@
--- Samples as files store them: four bytes each, least byte first. Definitions only.
+-- Numbers and samples as files store them: four bytes each, least byte first. Definitions only.
 use mathlib.Core.List.{List}
 use Prim.Native.Nat.{ℕ, _+_, _*_}
 use lib.IntN.{ℤ, pos}
@@ -9,7 +9,9 @@ use Rattle.arith32.specs.Arith.{wrap}
 abbrev pub byteAt : List ℕ → ℕ → ℕ
 byteAt bytes at = getD bytes at 0
 
--- the sample whose four bytes start at `at`
+-- the number whose four bytes start at `at`, and the sample that has its bits
+unfoldable pub wordAt : List ℕ → ℕ → ℕ
+wordAt bytes at = byteAt bytes at + 0x100 * byteAt bytes (at + 1) + 0x1_0000 * byteAt bytes (at + 2) + 0x100_0000 * byteAt bytes (at + 3)
+
 unfoldable pub sampleAt : List ℕ → ℕ → ℤ
-sampleAt bytes at =
-    wrap (pos (byteAt bytes at + 0x100 * byteAt bytes (at + 1) + 0x1_0000 * byteAt bytes (at + 2) + 0x100_0000 * byteAt bytes (at + 3)))
+sampleAt bytes at = wrap (pos (wordAt bytes at))

@@ -8,6 +8,7 @@ ghost use lib.ListN.{length};
 use libc::STDIN_FILENO;
 use libc::STDOUT_FILENO;
 use samples::sample_at;
+use samples::word_at;
 
 // The head of a case, by bytes: the answer, the direction, six sides of eight
 // bytes each, and the lengths of the slices (averages, residuals, next line,
@@ -30,26 +31,6 @@ const ROOM: usize = 1024;
 
 // Samples before and after the lent output, at least.
 const GUARD: usize = 16;
-
-fn byte_at(bytes: &[u8], at: usize) -> u32
-    ensures { λ r. ⌜ r < 256 ⌝ }
-{
-    if at < bytes.len() {
-        bytes[at] as u32
-    } else {
-        0
-    }
-}
-
-// The number of four bytes that starts at `at`, least byte first.
-fn word_at(bytes: &[u8], at: usize) -> u32 {
-    if bytes.len() <= at {
-        return 0;
-    }
-    let low = byte_at(bytes, at) + 0x100 * byte_at(bytes, at + 1);
-    let high = byte_at(bytes, at + 2) + 0x100 * byte_at(bytes, at + 3);
-    low + 0x1_0000 * high
-}
 
 // The number of eight bytes that starts at `at`.
 fn number_at(bytes: &[u8], at: usize) -> usize {
