@@ -167,7 +167,7 @@ module _ (s : Step) (cs : List Channel) (inside : s .begin + s .number ≤ lengt
       behind-is =
           rw (between-in (p .b) (p .a) (p .r) (p .z) from to moved start end (s .inplace) moved-at (upto - from) averages-long used room (ek ∙ kept-read)) at ep
 
-      pub step-made : (u : ℕ) → u ≡ max t moved
+      step-made : (u : ℕ) → u ≡ max t moved
           → standing u (take to made ++ (part ++ drop (length made - to) (drop to made))) pyramid ≡ stepBack s cs xs
       step-made u eu =
           let i = s .inplace in

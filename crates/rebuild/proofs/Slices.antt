@@ -28,7 +28,7 @@ parts-nothing : (xs : List ℤ) → length xs ≡ 0 → xs ≡ []
 parts-nothing [] e = refl
 parts-nothing (x ∷ xs) e = absurd (omega arith)
 
-pub parts-append : (cs ds : List Channel) (xs ys : List ℤ) → length xs ≡ total cs → parts (cs ++ ds) (xs ++ ys) ≡ parts cs xs ++ parts ds ys
+parts-append : (cs ds : List Channel) (xs ys : List ℤ) → length xs ≡ total cs → parts (cs ++ ds) (xs ++ ys) ≡ parts cs xs ++ parts ds ys
 parts-append [] ds xs ys e = rw (parts-nothing xs e)
 parts-append (c ∷ cs) ds xs ys e =
     let h : samples c ≤ length xs = omega arith in
@@ -36,7 +36,7 @@ parts-append (c ∷ cs) ds xs ys e =
     rw (take-append-le (samples c) xs ys h, drop-append-le (samples c) xs ys h, parts-append cs ds (drop (samples c) xs) ys (omega arith))
 
 -- what lies behind the parts does not count
-pub parts-front : (cs : List Channel) (xs ys : List ℤ) → total cs ≤ length xs → parts cs (xs ++ ys) ≡ parts cs xs
+parts-front : (cs : List Channel) (xs ys : List ℤ) → total cs ≤ length xs → parts cs (xs ++ ys) ≡ parts cs xs
 parts-front [] xs ys e = refl
 parts-front (c ∷ cs) xs ys e =
     let h : samples c ≤ length xs = omega arith in
@@ -49,7 +49,7 @@ pub range-front : (h : Bool) (cs : List Channel) (us vs a x r y : List ℤ) → 
 unfolding rangeFrom
 range-front h cs us vs a x r y eu ev la lr = rw (eu, ev, parts-front (map (average h) cs) a x la, parts-front (map (residual h) cs) r y lr)
 
-pub joined-append : (ps qs : List (List ℤ)) → joined (ps ++ qs) ≡ joined ps ++ joined qs
+joined-append : (ps qs : List (List ℤ)) → joined (ps ++ qs) ≡ joined ps ++ joined qs
 joined-append [] qs = refl
 joined-append (p ∷ ps) qs = rw (joined-append ps qs) (sym (append-assoc p (joined ps) (joined qs)))
 

@@ -2,7 +2,7 @@
 -- they are once the front of the picture is written. Assumes nothing.
 use mathlib.Core.Path.{_≡_, refl, sym, ap, _∙_}
 use mathlib.Core.Logic.{_⊎_, inl, inr}
-use mathlib.Core.List.{List, [], _++_, append-assoc, append-nil}
+use mathlib.Core.List.{List, _++_, append-assoc, append-nil}
 use Prim.Native.Nat.{ℕ, _+_, _-_, _<_, _≤_, min, max}
 use native.Mathlib.Omega.{arith}
 use lib.IntN.{ℤ}
@@ -56,7 +56,7 @@ module _ (t : ℕ) (p q : List ℤ) (s : Stands t p q) where
       ∙ drop-drop (m - t) t q
       ∙ ap (λ (i : ℕ). drop i q) (sym o)
 
-  pub across-seam : (from upto seam : ℕ) → from ≤ t → from ≤ upto → upto ≤ length q → seam ≡ min t upto
+  across-seam : (from upto seam : ℕ) → from ≤ t → from ≤ upto → upto ≤ length q → seam ≡ min t upto
       → cut from upto (standing t p q) ≡ cut from seam p ++ cut seam upto q
   across-seam from upto seam hf hu hq e = rw (cut-split from seam upto (standing t p q) (omega arith) (omega arith), before, behind (lt-or-ge t upto))
     where

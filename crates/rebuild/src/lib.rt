@@ -9,7 +9,7 @@ ghost use mathlib.Core.List.{_++_};
 ghost use Prim.Native.Nat.{_+_, _≤_, min, max};
 ghost use lib.ListN.{length, take, drop};
 ghost use Rattle.channel.specs.Channel.{samples};
-ghost use Rattle.list.specs.Lists.{maxSamples, maxSteps, channels, average, residual, range, total};
+ghost use Rattle.list.specs.Lists.{maxSteps, channels, average, range, total};
 ghost use Rattle.line.specs.Forward.{averageCount};
 ghost use Rattle.tile.specs.Cut as Cut;
 ghost use Rattle.plan.specs.Steps as Spec;
@@ -161,8 +161,8 @@ fn larger(m: usize, n: usize) -> usize
 }
 
 // While the steps are taken, the samples of the list stand in the picture up to
-// `touched`; the others are read where they lie, in the pyramid. This one brings
-// all before `upto` to the picture, and gives back how far it then goes.
+// `touched`; the others, which no step has touched, lie in the pyramid. Here all
+// before `upto` come to the picture. Gives back how far it then goes.
 fn settle(pyramid: &[i32], touched: usize, upto: usize, picture: &mut [i32]) -> usize
     requires { ⌜ Stands touched (now picture) (now pyramid) × (upto ≤ length (now pyramid)) ⌝ }
     ensures { λ r. ⌜ (r ≡ max touched upto) × (standing r (now (picture .exit)) (now (pyramid .entry)) ≡ standing touched (now (picture .entry)) (now (pyramid .entry))) ⌝ }
@@ -193,9 +193,10 @@ fn load(
     buffer::copy(&pyramid[seam..upto], &mut work[at..]);
 }
 
-// A step's range over its averages, from `from` on, by way of the work slice;
-// residuals from `residuals` to `moved` that no step has touched are read in the
-// pyramid.
+// A step's range, made in the picture where its averages stand: these, and what
+// lies between them and the residuals, go to the work slice first. Residuals, from
+// `residuals` to `moved`, are read in the pyramid if no step has touched them, and
+// else go to the work slice too.
 fn range_over(
     list: ChannelList,
     step: Step,
@@ -249,12 +250,12 @@ fn step_back(
     let moved = moved_to(step.inplace, to, picture.len());
     let averages = samples_before(next, end) - from;
     let kept = averages + (moved - to);
-    let stands = settle(pyramid, touched, from, picture);
+    let settled = settle(pyramid, touched, from, picture);
     range_over(
         list,
         step,
         pyramid,
-        stands,
+        settled,
         from,
         from + kept,
         moved,
@@ -262,7 +263,7 @@ fn step_back(
         work,
     );
     buffer::copy(&work[averages..kept], &mut picture[to..]);
-    larger(stands, moved)
+    larger(settled, moved)
 }
 
 // The steps from the k-th on, last first; gives back how far the picture goes.
@@ -318,7 +319,7 @@ pub fn rebuild(
         return REFUSED_LENGTHS;
     }
     let touched = rebuild_from(list, meant(list, steps), 0, pyramid, picture, work);
-    buffer::clear(work);
     settle(pyramid, touched, total, picture);
+    buffer::clear(work);
     0
 }

@@ -49,19 +49,19 @@ rebuild-from-requires c κs =
     (lengths (a .list) (a .steps) (a .pyramid .now) (a .picture .now) (a .work .now) (w .result .answer) ea ok (m .total .result) (m .total .ensures)
     (not-false _ (c .before .before .before .if2 .left)))
 
-clear-requires : tie.Need-clear-requires
-clear-requires c κs = search needs
-
 settle-requires : tie.Need-settle-requires
 settle-requires c κs =
-    let m = c .before .before .before .before .before .before .before .before .before .before .before in
+    let m = c .before .before .before .before .before .before .before .before in
     let w = m .before .before .rewrite in
     let a = m .before .before .before .args in
     let ea = rewritten-answer (a .list) (a .steps) (w .result) (w .ensures) in
     let ok = m .before .if1 .left in
-    let run = c .before .before .before .before .before .before .rebuild-from in
+    let run = c .before .before .before .rebuild-from in
     settle-fits (a .list) (a .steps) (a .pyramid .now) (a .picture .now) (a .work .now) (w .result .answer) ea ok (m .total .result) (m .total .ensures)
-    (not-false _ (c .before .before .before .before .before .before .before .before .before .before .if2 .left)) _ _ (run .ensures .0) (run .kept .1 .1 .1 .1 .0)
+    (not-false _ (c .before .before .before .before .before .before .before .if2 .left)) _ _ (run .ensures .0) (run .kept .1 .1 .1 .1 .0)
+
+clear-requires : tie.Need-clear-requires
+clear-requires c κs = search needs
 
 same-length : tie.Need-same-length
 same-length c = search needs
@@ -78,8 +78,8 @@ returns-3 c =
     let ok = m .before .if1 .left in
     let steps = c .before .before .before .before .before .before .before .before .before .before .before .meant in
     let run = c .before .before .before .before .before .before .before .before .rebuild-from in
-    let clear = c .before .before .before .before .clear in
-    let settle = c .before .settle in
+    let settle = c .before .before .before .before .settle in
+    let clear = c .before .clear in
     ends-done (a .list) (a .steps) (a .pyramid .now) (a .picture .now) (a .work .now) (w .result .answer) ea ok (m .total .result) (m .total .ensures)
     (not-false _ (c .before .before .before .before .before .before .before .before .before .before .before .before .if2 .left)) (steps .result) (steps .ensures .0) (steps .ensures .1) _ _ _ _ _ _ (run .ensures) (run .kept .1 .1 .1 .1 .1 .0) (clear .ensures) (settle .ensures)
     (settle .kept .1 .1 .1 .0 ∙ run .kept .1 .1 .1 .1 .0)
@@ -94,8 +94,8 @@ rebuild-spec =
     returns-2
     meant-requires
     rebuild-from-requires
-    clear-requires
     settle-requires
+    clear-requires
     same-length
     same-length-2
     returns-3)
