@@ -23,11 +23,9 @@ use Rattle.runs.specs.Parts.{parts}
 use Rattle.runs.specs.Runs.{allBack, stepBack}
 use Rattle.runs.proofs.Shapes.{joined-length, parts-shaped}
 use Rattle.runs.proofs.OneChannel.{back-shaped}
-use Rattle.runs.proofs.OneStep.{arranged}
 use Rattle.rebuild.specs.Run.{cut, standing, rangeFrom, Stands, OverFits, Over, StepFits}
 use Rattle.rebuild.proofs.Slices.{range-front, Laid, laid, back-laid}
-use Rattle.rebuild.proofs.Moves as Moves
-use Rattle.rebuild.proofs.Moves.{behind, kept-in, residuals-in, beyond-in, between-in, moved-in, moved-long}
+use Rattle.rebuild.proofs.Moves.{between, beyond, behind, Moved, front-in, kept-in, residuals-in, beyond-in, between-in, moved-in, moved-long}
 use Rattle.rebuild.proofs.Standing.{standing-long, in-picture, front-written}
 
 -- the ends of a step's parts in a slice of `all` samples: `upto` of the averages
@@ -86,25 +84,19 @@ module _ (s : Step) (cs : List Channel) (inside : s .begin + s .number ≤ lengt
   -- ---- the step, from the samples xs
   module _ (xs : List ℤ) (all from to moved upto : ℕ) (el : length xs ≡ all) (em : moved ≡ cond (s .inplace) to all)
       (q : Places s cs all from to moved upto) (p : Laid s cs xs) where
-    start : from ≡ length (p .b)
-    start = q .first ∙ sym (p .long-b)
-
-    end : to ≡ from + (length (p .a) + length (p .r))
-    end =
+    moves : Moved (s .inplace) (p .b) (p .a) (p .r) (p .z) from to moved (upto - from)
+    moves =
         let h = q .halves in
         let a = p .long-a in
         let r = p .long-r in
         let e = q .range-ends in
-        omega arith
-
-    averages-long : upto - from ≡ length (p .a)
-    averages-long =
-        let a = p .long-a in
-        let e = q .averages-end in
-        omega arith
-
-    moved-at : moved ≡ cond (s .inplace) to (length (Moves.after (s .inplace) (p .b) (p .a) (p .r) (p .z)))
-    moved-at = em ∙ ap (cond (s .inplace) to) (sym el ∙ ap length (p .whole))
+        let u = q .averages-end in
+        record {
+          start = q .first ∙ sym (p .long-b);
+          end = omega arith;
+          last = em ∙ ap (cond (s .inplace) to) (sym el ∙ ap length (p .whole));
+          averages = omega arith;
+        }
 
     abbrev range-made : List ℤ
     range-made = rangeFrom (s .horizontal) (range s cs) (p .a) (p .r)
@@ -126,21 +118,17 @@ module _ (s : Step) (cs : List Channel) (inside : s .begin + s .number ≤ lengt
     abbrev kept : ℕ
     kept = upto - from + (moved - to)
 
-    kept-read : cut from (from + kept) xs ≡ p .a ++ Moves.between (s .inplace) (p .z)
-    kept-read =
-        ap (λ (ys : List ℤ). cut from (from + kept) ys) (p .whole)
-        ∙ kept-in (p .b) (p .a) (p .r) (p .z) from to moved start end (s .inplace) moved-at (upto - from) averages-long
+    kept-read : cut from (from + kept) xs ≡ p .a ++ between (s .inplace) (p .z)
+    kept-read = ap (λ (ys : List ℤ). cut from (from + kept) ys) (p .whole) ∙ kept-in moves
 
     residuals-read : cut (from + kept) moved xs ≡ p .r
-    residuals-read =
-        ap (λ (ys : List ℤ). cut (from + kept) moved ys) (p .whole)
-        ∙ residuals-in (p .b) (p .a) (p .r) (p .z) from to moved start end (s .inplace) moved-at (upto - from) averages-long
+    residuals-read = ap (λ (ys : List ℤ). cut (from + kept) moved ys) (p .whole) ∙ residuals-in moves
 
     range-is : rangeFrom (s .horizontal) (range s cs) (cut from (from + kept) xs) (cut (from + kept) moved xs) ≡ range-made
     range-is =
         let la = p .long-a in
         let lr = p .long-r in
-        range-front (s .horizontal) (range s cs) (cut from (from + kept) xs) (cut (from + kept) moved xs) (p .a) (Moves.between (s .inplace) (p .z)) (p .r) [] kept-read
+        range-front (s .horizontal) (range s cs) (cut from (from + kept) xs) (cut (from + kept) moved xs) (p .a) (between (s .inplace) (p .z)) (p .r) [] kept-read
         (residuals-read ∙ sym (append-nil (p .r))) (omega arith) (omega arith)
 
     -- the picture and the pyramid in which xs stand, and what becomes of the picture: the range is made, and what lies behind it put there
@@ -154,18 +142,13 @@ module _ (s : Step) (cs : List Channel) (inside : s .begin + s .number ≤ lengt
       long : length pyramid ≡ all
       long = sym (ap length ex ∙ standing-long t picture pyramid st) ∙ el
 
-      front-is : take from picture ≡ p .b
-      front-is =
-          sym (in-picture t picture pyramid st from h)
-          ∙ ap (take from) (sym ex ∙ p .whole)
-          ∙ take-at (p .b) (p .a ++ arranged (s .inplace) (p .r) (p .z)) from (sym start)
-
       made-is : made ≡ p .b ++ (range-made ++ drop to picture)
-      made-is = er ∙ rw (front-is, range-is, ← (q .range-ends))
+      made-is =
+          let front : take from picture ≡ p .b = sym (in-picture t picture pyramid st from h) ∙ ap (take from) (sym ex ∙ p .whole) ∙ front-in moves in
+          er ∙ rw (front, range-is, ← (q .range-ends))
 
-      behind-is : part ≡ copied (Moves.between (s .inplace) (p .z)) (take (length made - to) (drop to made))
-      behind-is =
-          rw (between-in (p .b) (p .a) (p .r) (p .z) from to moved start end (s .inplace) moved-at (upto - from) averages-long used room (ek ∙ kept-read)) at ep
+      behind-is : part ≡ copied (between (s .inplace) (p .z)) (take (length made - to) (drop to made))
+      behind-is = rw (between-in moves used room (ek ∙ kept-read)) at ep
 
       step-made : (u : ℕ) → u ≡ max t moved
           → standing u (take to made ++ (part ++ drop (length made - to) (drop to made))) pyramid ≡ stepBack s cs xs
@@ -176,14 +159,12 @@ module _ (s : Step) (cs : List Channel) (inside : s .begin + s .number ≤ lengt
           let n = long in
           let m = st .long in
           let w = q .high in
-          ap (λ (ys : List ℤ). standing u ys pyramid)
-          (moved-in b (p .a) (p .r) z from to moved start end i moved-at (upto - from) averages-long range-made picture made part made-long (omega arith) made-is behind-is)
-          ∙ front-written t picture pyramid st (b ++ (range-made ++ Moves.between i z)) moved u
-          (moved-long b (p .a) (p .r) z from to moved start end i moved-at (upto - from) averages-long range-made made-long) (omega arith) eu
-          ∙ ap (λ (ys : List ℤ). (b ++ (range-made ++ Moves.between i z)) ++ ys)
-          (ap (drop moved) (sym ex ∙ p .whole) ∙ beyond-in b (p .a) (p .r) z from to moved start end i moved-at (upto - from) averages-long)
-          ∙ append-assoc b (range-made ++ Moves.between i z) (Moves.beyond i z)
-          ∙ rw (append-assoc range-made (Moves.between i z) (Moves.beyond i z), behind i z) (sym (back-laid s cs inside xs p))
+          let front = b ++ (range-made ++ between i z) in
+          ap (λ (ys : List ℤ). standing u ys pyramid) (moved-in moves range-made made-long picture made part (omega arith) made-is behind-is)
+          ∙ front-written t picture pyramid st front moved u (moved-long moves range-made made-long) (omega arith) eu
+          ∙ ap (λ (ys : List ℤ). front ++ ys) (ap (drop moved) (sym ex ∙ p .whole) ∙ beyond-in moves)
+          ∙ append-assoc b (range-made ++ between i z) (beyond i z)
+          ∙ rw (append-assoc range-made (between i z) (beyond i z), behind i z) (sym (back-laid s cs inside xs p))
 
 -- ---- the step at the code's numbers
 module _ (l next : ChannelList) (s : Step) (pyramid : List ℤ) (touched : ℕ) (picture work : List ℤ) (f : StepFits l next s pyramid touched picture work) where
