@@ -29,6 +29,11 @@ pub zeros-length : (xs : List ℤ) → length (zeros xs) ≡ length xs
 unfolding zeros
 zeros-length xs = length-replicate (length xs) (pos 0)
 
+-- zeros go by the length
+pub zeros-same : (xs ys : List ℤ) → length xs ≡ length ys → zeros xs ≡ zeros ys
+unfolding zeros
+zeros-same xs ys e = rw e
+
 pub zeros-at : (xs : List ℤ) (k : ℕ) → k < length xs → pos 0 ≡ getD (zeros xs) k (pos 0)
 unfolding zeros
 zeros-at xs k h = sym (getD-replicate (length xs) k (pos 0) (pos 0) h)

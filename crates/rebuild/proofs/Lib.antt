@@ -1,6 +1,9 @@
 pub mod OneTile
 pub mod Fronts
+pub mod Cuts
+pub mod Standing
 pub mod Slices
+pub mod Overs
 pub mod Ranges
 pub mod Moves
 pub mod Places

@@ -1,9 +1,9 @@
--- A step back as the code takes it: where its samples lie, and that the two copies and the range between them are the step (`stepBack` of crate
--- runs). Assumes nothing.
-use mathlib.Core.Path.{_≡_, sym, ap, _∙_}
+-- A step back as the code takes it: where its samples lie, and that the range over its averages and the copy of what lies behind are the step
+-- (`stepBack` of crate runs). Assumes nothing.
+use mathlib.Core.Path.{_≡_, refl, sym, ap, _∙_}
 use mathlib.Core.Bool.{Bool, true, false, cond}
-use mathlib.Core.List.{List, _++_, append-assoc}
-use Prim.Native.Nat.{ℕ, _+_, _-_, _≤_}
+use mathlib.Core.List.{List, [], _++_, append-assoc, append-nil}
+use Prim.Native.Nat.{ℕ, _+_, _-_, _≤_, max}
 use native.Mathlib.Omega.{arith}
 use lib.IntN.{ℤ}
 use lib.ListN.{length, take, drop, length-append}
@@ -24,10 +24,10 @@ use Rattle.runs.specs.Parts.{parts}
 use Rattle.runs.specs.Runs.{allBack, stepBack}
 use Rattle.runs.proofs.Shapes.{joined-length, parts-shaped}
 use Rattle.runs.proofs.OneChannel.{back-shaped}
-use Rattle.rebuild.specs.Run.{rangeFrom, RangeFits, StepFits}
-use Rattle.rebuild.proofs.Slices.{parts-front, Laid, laid, madeRange, back-laid}
-use Rattle.rebuild.proofs.Moves as Moves
-use Rattle.rebuild.proofs.Moves.{filled-by, residuals-in, between-in, assembled}
+use Rattle.rebuild.specs.Run.{cut, standing, rangeFrom, Stands, OverFits, Over, StepFits}
+use Rattle.rebuild.proofs.Slices.{range-front, Laid, laid, back-laid}
+use Rattle.rebuild.proofs.Moves.{between, beyond, behind, Moved, front-in, kept-in, residuals-in, beyond-in, between-in, moved-in, moved-long}
+use Rattle.rebuild.proofs.Standing.{standing-long, in-picture, front-written}
 
 -- the ends of a step's parts in a slice of `all` samples: `upto` of the averages
 pub record Places (s : Step) (cs : List Channel) (all from to moved upto : ℕ) : Type 0 where
@@ -82,53 +82,28 @@ module _ (s : Step) (cs : List Channel) (inside : s .begin + s .number ≤ lengt
       high-by h true = h
       high-by h false = omega arith
 
-  -- ---- the step
-  module _ (xs work : List ℤ) (el : length xs ≡ total cs) (ew : length work ≡ total cs) (from to moved upto : ℕ)
-      (em : moved ≡ cond (s .inplace) to (length xs)) (q : Places s cs (length xs) from to moved upto) (p : Laid s cs xs)
-      (filled picture part : List ℤ) (ef : filled ≡ copied (take (moved - from) (drop from xs)) work)
-      (ep : picture ≡ take from xs
-      ++ (rangeFrom (s .horizontal) (range s cs) filled (upto - from + (moved - to)) ++ drop (from + total (range s cs)) xs))
-      (et : part ≡ copied (take (upto - from + (moved - to) - (upto - from)) (drop (upto - from) filled)) (take (length picture - to) (drop to picture))) where
-    start : from ≡ length (p .b)
-    start = q .first ∙ sym (p .long-b)
-
-    end : to ≡ from + (length (p .a) + length (p .r))
-    end =
+  -- ---- the step, from the samples xs
+  module _ (xs : List ℤ) (all from to moved upto : ℕ) (el : length xs ≡ all) (em : moved ≡ cond (s .inplace) to all)
+      (q : Places s cs all from to moved upto) (p : Laid s cs xs) where
+    moves : Moved (s .inplace) (p .b) (p .a) (p .r) (p .z) from to moved (upto - from)
+    moves =
         let h = q .halves in
         let a = p .long-a in
         let r = p .long-r in
         let e = q .range-ends in
-        omega arith
+        let u = q .averages-end in
+        record {
+          start = q .first ∙ sym (p .long-b);
+          end = omega arith;
+          last = em ∙ ap (cond (s .inplace) to) (sym el ∙ ap length (p .whole));
+          averages = omega arith;
+        }
 
-    averages-long : upto - from ≡ length (p .a)
-    averages-long =
-        let a = p .long-a in
-        let e = q .averages-end in
-        omega arith
+    abbrev range-made : List ℤ
+    range-made = rangeFrom (s .horizontal) (range s cs) (p .a) (p .r)
 
-    moved-at : moved ≡ cond (s .inplace) to (length (Moves.after (s .inplace) (p .b) (p .a) (p .r) (p .z)))
-    moved-at = rw (p .whole) at em
-
-    work-long : length work ≡ length (Moves.after (s .inplace) (p .b) (p .a) (p .r) (p .z))
-    work-long = ew ∙ sym el ∙ ap length (p .whole)
-
-    filled-from : filled ≡ copied (take (moved - from) (drop from (Moves.after (s .inplace) (p .b) (p .a) (p .r) (p .z)))) work
-    filled-from = rw (p .whole) at ef
-
-    -- the range is made of the averages and the residuals
-    range-made : rangeFrom (s .horizontal) (range s cs) filled (upto - from + (moved - to)) ≡ madeRange s cs (p .a) (p .r)
-    unfolding rangeFrom madeRange
-    range-made =
-        let fb = filled-by (p .b) (p .a) (p .r) (p .z) from to moved start end (s .inplace) moved-at work filled work-long filled-from in
-        let rb = residuals-in (p .b) (p .a) (p .r) (p .z) from to moved start end (s .inplace) moved-at work filled work-long filled-from (upto - from) averages-long in
-        let la = p .long-a in
-        let lr = p .long-r in
-        let na : total (map (average (s .horizontal)) (range s cs)) ≤ length (p .a) = omega arith in
-        let nr : total (map (residual (s .horizontal)) (range s cs)) ≤ length (p .r) = omega arith in
-        rw (rb, parts-front (map (residual (s .horizontal)) (range s cs)) (p .r), fb, parts-front (map (average (s .horizontal)) (range s cs)) (p .a))
-
-    made-long : length (madeRange s cs (p .a) (p .r)) ≡ length (p .a) + length (p .r)
-    unfolding madeRange
+    made-long : length range-made ≡ length (p .a) + length (p .r)
+    unfolding rangeFrom
     made-long =
         let averages = map (average (s .horizontal)) (range s cs) in
         let residuals = map (residual (s .horizontal)) (range s cs) in
@@ -141,16 +116,59 @@ module _ (s : Step) (cs : List Channel) (inside : s .begin + s .number ≤ lengt
         let lr = p .long-r in
         omega arith
 
-    pub step-made : take to picture ++ (part ++ drop (length picture - to) (drop to picture)) ≡ stepBack s cs xs
-    step-made =
-        let bi = between-in (p .b) (p .a) (p .r) (p .z) from to moved start end (s .inplace) moved-at work filled work-long filled-from (upto - from) averages-long in
-        let ep′ = rw (range-made, ← (q .range-ends), p .whole) at ep in
-        let et′ = rw bi at et in
-        assembled (p .b) (p .a) (p .r) (p .z) from to moved start end (s .inplace) (madeRange s cs (p .a) (p .r)) made-long picture part ep′ et′
-        ∙ sym (back-laid s cs inside xs p)
+    abbrev kept : ℕ
+    kept = upto - from + (moved - to)
+
+    kept-read : cut from (from + kept) xs ≡ p .a ++ between (s .inplace) (p .z)
+    kept-read = ap (λ (ys : List ℤ). cut from (from + kept) ys) (p .whole) ∙ kept-in moves
+
+    residuals-read : cut (from + kept) moved xs ≡ p .r
+    residuals-read = ap (λ (ys : List ℤ). cut (from + kept) moved ys) (p .whole) ∙ residuals-in moves
+
+    range-is : rangeFrom (s .horizontal) (range s cs) (cut from (from + kept) xs) (cut (from + kept) moved xs) ≡ range-made
+    range-is =
+        let la = p .long-a in
+        let lr = p .long-r in
+        range-front (s .horizontal) (range s cs) (cut from (from + kept) xs) (cut (from + kept) moved xs) (p .a) (between (s .inplace) (p .z)) (p .r) [] kept-read
+        (residuals-read ∙ sym (append-nil (p .r))) (omega arith) (omega arith)
+
+    -- the picture and the pyramid in which xs stand, and what becomes of the picture: the range is made, and what lies behind it put there
+    module _ (t : ℕ) (picture pyramid : List ℤ) (st : Stands t picture pyramid) (ex : xs ≡ standing t picture pyramid) (h : from ≤ t)
+        (made used part : List ℤ)
+        (er : made
+        ≡ take from picture
+        ++ (rangeFrom (s .horizontal) (range s cs) (cut from (from + kept) xs) (cut (from + kept) moved xs) ++ drop (from + total (range s cs)) picture))
+        (ek : take (from + kept - from) used ≡ cut from (from + kept) xs) (room : kept ≤ length used)
+        (ep : part ≡ copied (cut (upto - from) kept used) (take (length made - to) (drop to made))) where
+      long : length pyramid ≡ all
+      long = sym (ap length ex ∙ standing-long t picture pyramid st) ∙ el
+
+      made-is : made ≡ p .b ++ (range-made ++ drop to picture)
+      made-is =
+          let front : take from picture ≡ p .b = sym (in-picture t picture pyramid st from h) ∙ ap (take from) (sym ex ∙ p .whole) ∙ front-in moves in
+          er ∙ rw (front, range-is, ← (q .range-ends))
+
+      behind-is : part ≡ copied (between (s .inplace) (p .z)) (take (length made - to) (drop to made))
+      behind-is = rw (between-in moves used room (ek ∙ kept-read)) at ep
+
+      step-made : (u : ℕ) → u ≡ max t moved
+          → standing u (take to made ++ (part ++ drop (length made - to) (drop to made))) pyramid ≡ stepBack s cs xs
+      step-made u eu =
+          let i = s .inplace in
+          let b = p .b in
+          let z = p .z in
+          let n = long in
+          let m = st .long in
+          let w = q .high in
+          let front = b ++ (range-made ++ between i z) in
+          ap (λ (ys : List ℤ). standing u ys pyramid) (moved-in moves range-made made-long picture made part (omega arith) made-is behind-is)
+          ∙ front-written t picture pyramid st front moved u (moved-long moves range-made made-long) (omega arith) eu
+          ∙ ap (λ (ys : List ℤ). front ++ ys) (ap (drop moved) (sym ex ∙ p .whole) ∙ beyond-in moves)
+          ∙ append-assoc b (range-made ++ between i z) (beyond i z)
+          ∙ rw (append-assoc range-made (between i z) (beyond i z), behind i z) (sym (back-laid s cs inside xs p))
 
 -- ---- the step at the code's numbers
-module _ (l next : ChannelList) (s : Step) (xs work : List ℤ) (f : StepFits l next s xs work) where
+module _ (l next : ChannelList) (s : Step) (pyramid : List ℤ) (touched : ℕ) (picture work : List ℤ) (f : StepFits l next s pyramid touched picture work) where
   pub next-inside : s .begin + s .number ≤ length (channels next)
   next-inside =
       let n = stepped-length s (channels l) (f .inside) in
@@ -158,22 +176,57 @@ module _ (l next : ChannelList) (s : Step) (xs work : List ℤ) (f : StepFits l 
       rw (f .leaves) (omega arith)
 
   module _ (from to moved upto : ℕ) (ef : from ≡ total (take (s .begin) (channels l))) (et : to ≡ total (take (s .begin + s .number) (channels l)))
-      (em : moved ≡ cond (s .inplace) to (length xs)) (eu : upto ≡ total (take (s .begin + s .number) (channels next))) where
-    pub places : Places s (channels l) (length xs) from to moved upto
-    places = places-of s (channels l) (f .inside) (length xs) from to moved upto (f .picture-long) (rw (f .picture-long) (f .few)) ef et em (rw (f .leaves) at eu)
+      (em : moved ≡ cond (s .inplace) to (length picture)) (eu : upto ≡ total (take (s .begin + s .number) (channels next))) where
+    picture-long : length picture ≡ total (channels l)
+    picture-long = f .stands .long ∙ f .pyramid-long
 
-    pub range-fits : (filled : List ℤ) → length filled ≡ length work → RangeFits l s filled (upto - from + (moved - to)) xs from
-    range-fits filled n =
-        let q = places in
-        let w = f .work-long in
-        let p = f .picture-long in
-        record { inside = f .inside; averages = omega arith; rest = omega arith; place = omega arith; few = omega arith }
+    pub places : Places s (channels l) (length picture) from to moved upto
+    places =
+        places-of s (channels l) (f .inside) (length picture) from to moved upto picture-long (rw picture-long (f .few)) ef et em (rw (f .leaves) at eu)
 
-    pub step-taken : (filled picture part : List ℤ) → filled ≡ copied (take (moved - from) (drop from xs)) work
-        → picture ≡ take from xs
-        ++ (rangeFrom (s .horizontal) (range s (channels l)) filled (upto - from + (moved - to)) ++ drop (from + total (range s (channels l))) xs)
-        → part ≡ copied (take (upto - from + (moved - to) - (upto - from)) (drop (upto - from) filled)) (take (length picture - to) (drop to picture))
-        → take to picture ++ (part ++ drop (length picture - to) (drop to picture)) ≡ stepBack s (channels l) xs
-    step-taken filled picture part e₁ e₂ e₃ =
-        step-made s (channels l) (f .inside) xs work (f .picture-long) (f .work-long) from to moved upto em places
-        (laid s (channels l) xs (f .picture-long ∙ sym (stepped-total s (channels l)))) filled picture part e₁ e₂ e₃
+    -- once all before the range is in the picture
+    module _ (stands : ℕ) (settled : List ℤ) (same : length settled ≡ length picture)
+        (e : (stands ≡ max touched from) × (standing stands settled pyramid ≡ standing touched picture pyramid)) where
+      now-stands : Stands stands settled pyramid
+      now-stands =
+          let q = places in
+          let n = f .stands .long in
+          let m = f .stands .reached in
+          record { long = same ∙ n; reached = omega (arith, e .0) }
+
+      pub over-fits : OverFits l s pyramid stands from (from + (upto - from + (moved - to))) moved settled work
+      over-fits =
+          let q = places in
+          let n = f .stands .long in
+          record {
+            stands = now-stands;
+            settled = omega (arith, e .0);
+            inside = f .inside;
+            averages = omega arith;
+            rest = omega arith;
+            place = omega arith;
+            ends = omega arith;
+            few = omega arith;
+            work-long = f .work-long;
+          }
+
+      pub step-taken : (made used part : List ℤ) → length used ≡ length work
+          → Over l s (standing stands settled pyramid) from (from + (upto - from + (moved - to))) moved settled made used
+          → part
+          ≡ copied (take (upto - from + (moved - to) - (upto - from)) (drop (upto - from) used)) (take (length made - to) (drop to made)) → (u : ℕ) → u ≡ max stands moved
+          → (u ≤ length pyramid)
+          × (standing u (take to made ++ (part ++ drop (length made - to) (drop to made))) pyramid
+          ≡ stepBack s (channels l) (standing touched picture pyramid))
+      step-taken made used part long o ep u e′ =
+          let q = places in
+          let n = f .stands .long in
+          let r = now-stands .reached in
+          let w = f .work-long in
+          let xs = standing stands settled pyramid in
+          let el : length xs ≡ length picture = standing-long stands settled pyramid now-stands ∙ sym n in
+          let p = laid s (channels l) xs (el ∙ picture-long ∙ sym (stepped-total s (channels l))) in (
+            omega arith,
+            step-made s (channels l) (f .inside) xs (length picture) from to moved upto el em q p stands settled pyramid now-stands refl (omega (arith, e .0)) made used part
+                (o .range-made) (o .kept) (omega arith) ep u e′
+                ∙ ap (stepBack s (channels l)) (e .1),
+          )

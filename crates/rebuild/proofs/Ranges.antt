@@ -20,27 +20,27 @@ use Rattle.runs.specs.Runs.{channelBack, allBack}
 use Rattle.runs.proofs.OneChannel.{back-length}
 use Rattle.rebuild.specs.Run.{rangeFrom, ChannelFits}
 
--- the samples of channels from averages at a and residuals at r
-abbrev pub made : Bool → List Channel → List ℤ → ℕ → ℕ → List ℤ
-made h cs work a r = joined (allBack h cs (parts (map (average h) cs) (drop a work)) (parts (map (residual h) cs) (drop r work)))
+-- the samples of channels from averages at a of us and residuals at r of vs
+abbrev pub made : Bool → List Channel → List ℤ → List ℤ → ℕ → ℕ → List ℤ
+made h cs us vs a r = joined (allBack h cs (parts (map (average h) cs) (drop a us)) (parts (map (residual h) cs) (drop r vs)))
 
 -- a, r and o are the places of averages, residuals and output; `goal` is what the output holds up to `last` in the end
-pub record Written (h : Bool) (left : List Channel) (work xs goal : List ℤ) (last : ℕ) (picture : List ℤ) (a r o : ℕ) : Type 0 where
-  pub so : take o picture ++ made h left work a r ≡ goal
+pub record Written (h : Bool) (left : List Channel) (us vs xs goal : List ℤ) (last : ℕ) (picture : List ℤ) (a r o : ℕ) : Type 0 where
+  pub so : take o picture ++ made h left us vs a r ≡ goal
   pub rest : drop o picture ≡ drop o xs
   pub long : length picture ≡ length xs
-  pub averages : a + total (map (average h) left) ≤ length work
-  pub residuals : r + total (map (residual h) left) ≤ length work
+  pub averages : a + total (map (average h) left) ≤ length us
+  pub residuals : r + total (map (residual h) left) ≤ length vs
   pub place : o + total left ≡ last
   pub inside : last ≤ length xs
   pub few : length xs ≤ maxSamples
 
 -- ---- the channel c at the head of those left
-module _ {h : Bool} {c : Channel} {left : List Channel} {work xs goal : List ℤ} {last : ℕ} {picture : List ℤ} {a r o : ℕ}
-    (w : Written h (c ∷ left) work xs goal last picture a r o) where
+module _ {h : Bool} {c : Channel} {left : List Channel} {us vs xs goal : List ℤ} {last : ℕ} {picture : List ℤ} {a r o : ℕ}
+    (w : Written h (c ∷ left) us vs xs goal last picture a r o) where
   record Room : Type 0 where
-    average-fits : a + samples (average h c) ≤ length work
-    residual-fits : r + samples (residual h c) ≤ length work
+    average-fits : a + samples (average h c) ≤ length us
+    residual-fits : r + samples (residual h c) ≤ length vs
     output-fits : o + samples c ≤ length picture
     few : samples c ≤ maxSamples
 
@@ -55,10 +55,10 @@ module _ {h : Bool} {c : Channel} {left : List Channel} {work xs goal : List ℤ
       record { average-fits = omega arith; residual-fits = omega arith; output-fits = omega arith; few = omega arith }
 
   abbrev avg : List ℤ
-  avg = take (samples (average h c)) (drop a work)
+  avg = take (samples (average h c)) (drop a us)
 
   abbrev res : List ℤ
-  res = take (samples (residual h c)) (drop r work)
+  res = take (samples (residual h c)) (drop r vs)
 
   abbrev out : List ℤ
   out = take (samples c) (drop o picture)
@@ -69,18 +69,18 @@ module _ {h : Bool} {c : Channel} {left : List Channel} {work xs goal : List ℤ
       let qa = q .average-fits in
       let qr = q .residual-fits in
       let qo = q .output-fits in
-      let da = length-drop a work in
-      let dr = length-drop r work in
+      let da = length-drop a us in
+      let dr = length-drop r vs in
       let dp = length-drop o picture in
       record {
-        avg-long = length-take-le (samples (average h c)) (drop a work) (omega arith);
-        res-long = length-take-le (samples (residual h c)) (drop r work) (omega arith);
+        avg-long = length-take-le (samples (average h c)) (drop a us) (omega arith);
+        res-long = length-take-le (samples (residual h c)) (drop r vs) (omega arith);
         out-long = length-take-le (samples c) (drop o picture) (omega arith);
         few = q .few;
       }
 
   -- its samples put at o
-  written-more : Written h left work xs goal last (take o picture ++ (channelBack h c avg res ++ drop (samples c) (drop o picture)))
+  written-more : Written h left us vs xs goal last (take o picture ++ (channelBack h c avg res ++ drop (samples c) (drop o picture)))
       (a + samples (average h c)) (r + samples (residual h c)) (o + samples c)
   written-more =
       let q = room in
@@ -101,7 +101,7 @@ module _ {h : Bool} {c : Channel} {left : List Channel} {work xs goal : List ℤ
       let n : length (take o picture ++ done) ≡ o + samples c = omega arith in
       record {
         so =
-            rw (seam, take-at (take o picture ++ done) behind (o + samples c) n, ← (drop-drop (samples (average h c)) a work), ← (drop-drop (samples (residual h c)) r work))
+            rw (seam, take-at (take o picture ++ done) behind (o + samples c) n, ← (drop-drop (samples (average h c)) a us), ← (drop-drop (samples (residual h c)) r vs))
             (append-assoc (take o picture) done _ ∙ w .so);
         rest =
             rw (seam, drop-at (take o picture ++ done) behind (o + samples c) n)
@@ -115,37 +115,37 @@ module _ {h : Bool} {c : Channel} {left : List Channel} {work xs goal : List ℤ
       }
 
 -- ---- the ends of the loop
-pub written-none : (h : Bool) (cs : List Channel) (work xs : List ℤ) (r start : ℕ)
-    → total (map (average h) cs) ≤ length work → r + total (map (residual h) cs) ≤ length work → start + total cs ≤ length xs → length xs ≤ maxSamples
-    → Written h cs work xs (take start xs ++ rangeFrom h cs work r) (start + total cs) xs 0 r start
+pub written-none : (h : Bool) (cs : List Channel) (us vs xs : List ℤ) (start : ℕ)
+    → total (map (average h) cs) ≤ length us → total (map (residual h) cs) ≤ length vs → start + total cs ≤ length xs → length xs ≤ maxSamples
+    → Written h cs us vs xs (take start xs ++ rangeFrom h cs us vs) (start + total cs) xs 0 0 start
 unfolding rangeFrom
-written-none h cs work xs r start u v p f =
-    record { so = refl; rest = refl; long = refl; averages = omega arith; residuals = v; place = refl; inside = p; few = f }
+written-none h cs us vs xs start u v p f =
+    record { so = refl; rest = refl; long = refl; averages = omega arith; residuals = omega arith; place = refl; inside = p; few = f }
 
-pub written-all : {h : Bool} {work xs goal : List ℤ} {last : ℕ} {picture : List ℤ} {a r o : ℕ}
-    → Written h [] work xs goal last picture a r o → picture ≡ goal ++ drop last xs
+pub written-all : {h : Bool} {us vs xs goal : List ℤ} {last : ℕ} {picture : List ℤ} {a r o : ℕ}
+    → Written h [] us vs xs goal last picture a r o → picture ≡ goal ++ drop last xs
 written-all {xs = xs} {last = last} {picture = picture} {o = o} w =
     let p = w .place in
     let e : o ≡ last = omega arith in
     sym (take-append-drop o picture) ∙ rw (w .rest, ← (w .so), append-nil (take o picture), e)
 
 -- ---- as the code counts: v is channel k of f, and av and n are the samples of its average and its own
-pub record Counted (work picture : List ℤ) (a r o av n : ℕ) : Type 0 where
-  pub average-fits : a + av ≤ length work
+pub record Counted (us vs picture : List ℤ) (a r o av n : ℕ) : Type 0 where
+  pub average-fits : a + av ≤ length us
   pub smaller : av ≤ n
-  pub residual-fits : r + (n - av) ≤ length work
+  pub residual-fits : r + (n - av) ≤ length vs
   pub output-fits : o + n ≤ length picture
 
-module _ (f : ℕ → Channel) (k end : ℕ) {h : Bool} {work xs goal : List ℤ} {last : ℕ} {picture : List ℤ} {a r o : ℕ}
-    (w : Written h (table f k (end - k)) work xs goal last picture a r o) (before : k < end) (v : Channel) (ev : v ≡ f k)
+module _ (f : ℕ → Channel) (k end : ℕ) {h : Bool} {us vs xs goal : List ℤ} {last : ℕ} {picture : List ℤ} {a r o : ℕ}
+    (w : Written h (table f k (end - k)) us vs xs goal last picture a r o) (before : k < end) (v : Channel) (ev : v ≡ f k)
     (av n : ℕ) (ea : av ≡ samples (average h v)) (en : n ≡ samples v) where
-  head : Written h (v ∷ table f (k + 1) (end - (k + 1))) work xs goal last picture a r o
+  head : Written h (v ∷ table f (k + 1) (end - (k + 1))) us vs xs goal last picture a r o
   head = rw ev (rw (table-rest f k end before) at w)
 
   res-size : n - av ≡ samples (residual h v)
   res-size = let q = parts-samples h v in omega arith
 
-  pub counted : Counted work picture a r o av n
+  pub counted : Counted us vs picture a r o av n
   counted =
       let q = room head in
       let z = res-size in
@@ -161,9 +161,9 @@ module _ (f : ℕ → Channel) (k end : ℕ) {h : Bool} {work xs goal : List ℤ
   out-part : o + n - o ≡ samples v
   out-part = omega arith
 
-  pub fits-at : ChannelFits h v (take (a + av - a) (drop a work)) (take (r + (n - av) - r) (drop r work)) (take (o + n - o) (drop o picture))
+  pub fits-at : ChannelFits h v (take (a + av - a) (drop a us)) (take (r + (n - av) - r) (drop r vs)) (take (o + n - o) (drop o picture))
   fits-at = rw (av-part, res-part, out-part) (fits head)
 
-  pub written-next : (done : List ℤ) → done ≡ channelBack h v (take (a + av - a) (drop a work)) (take (r + (n - av) - r) (drop r work))
-      → Written h (table f (k + 1) (end - (k + 1))) work xs goal last (take o picture ++ (done ++ drop (o + n - o) (drop o picture))) (a + av) (r + (n - av)) (o + n)
+  pub written-next : (done : List ℤ) → done ≡ channelBack h v (take (a + av - a) (drop a us)) (take (r + (n - av) - r) (drop r vs))
+      → Written h (table f (k + 1) (end - (k + 1))) us vs xs goal last (take o picture ++ (done ++ drop (o + n - o) (drop o picture))) (a + av) (r + (n - av)) (o + n)
   written-next done e = rw (e, av-part, res-part, out-part, res-size, ea, en) (written-more head)

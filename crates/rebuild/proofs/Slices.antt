@@ -20,6 +20,7 @@ use Rattle.list.proofs.Totals.{total-append}
 use Rattle.runs.specs.Parts.{parts, joined}
 use Rattle.runs.specs.Runs.{allBack, stepBack}
 use Rattle.runs.specs.Runs as Runs
+use Rattle.rebuild.specs.Run.{rangeFrom}
 use Rattle.runs.proofs.Shapes.{shaped-length, parts-shaped, joined-parts}
 use Rattle.runs.proofs.OneStep.{arranged, back-of}
 
@@ -27,7 +28,7 @@ parts-nothing : (xs : List ℤ) → length xs ≡ 0 → xs ≡ []
 parts-nothing [] e = refl
 parts-nothing (x ∷ xs) e = absurd (omega arith)
 
-pub parts-append : (cs ds : List Channel) (xs ys : List ℤ) → length xs ≡ total cs → parts (cs ++ ds) (xs ++ ys) ≡ parts cs xs ++ parts ds ys
+parts-append : (cs ds : List Channel) (xs ys : List ℤ) → length xs ≡ total cs → parts (cs ++ ds) (xs ++ ys) ≡ parts cs xs ++ parts ds ys
 parts-append [] ds xs ys e = rw (parts-nothing xs e)
 parts-append (c ∷ cs) ds xs ys e =
     let h : samples c ≤ length xs = omega arith in
@@ -35,14 +36,20 @@ parts-append (c ∷ cs) ds xs ys e =
     rw (take-append-le (samples c) xs ys h, drop-append-le (samples c) xs ys h, parts-append cs ds (drop (samples c) xs) ys (omega arith))
 
 -- what lies behind the parts does not count
-pub parts-front : (cs : List Channel) (xs ys : List ℤ) → total cs ≤ length xs → parts cs (xs ++ ys) ≡ parts cs xs
+parts-front : (cs : List Channel) (xs ys : List ℤ) → total cs ≤ length xs → parts cs (xs ++ ys) ≡ parts cs xs
 parts-front [] xs ys e = refl
 parts-front (c ∷ cs) xs ys e =
     let h : samples c ≤ length xs = omega arith in
     let d = length-drop (samples c) xs in
     rw (take-append-le (samples c) xs ys h, drop-append-le (samples c) xs ys h, parts-front cs (drop (samples c) xs) ys (omega arith))
 
-pub joined-append : (ps qs : List (List ℤ)) → joined (ps ++ qs) ≡ joined ps ++ joined qs
+-- channels from slices that go on behind their averages and residuals
+pub range-front : (h : Bool) (cs : List Channel) (us vs a x r y : List ℤ) → us ≡ a ++ x → vs ≡ r ++ y
+    → total (map (average h) cs) ≤ length a → total (map (residual h) cs) ≤ length r → rangeFrom h cs us vs ≡ rangeFrom h cs a r
+unfolding rangeFrom
+range-front h cs us vs a x r y eu ev la lr = rw (eu, ev, parts-front (map (average h) cs) a x la, parts-front (map (residual h) cs) r y lr)
+
+joined-append : (ps qs : List (List ℤ)) → joined (ps ++ qs) ≡ joined ps ++ joined qs
 joined-append [] qs = refl
 joined-append (p ∷ ps) qs = rw (joined-append ps qs) (sym (append-assoc p (joined ps) (joined qs)))
 
@@ -116,9 +123,6 @@ module _ (s : Step) (cs : List Channel) where
     laid n = laid-by (s .inplace) refl n
 
   -- ---- the step back on a slice so laid
-  unfoldable pub madeRange : (a r : List ℤ) → List ℤ
-  madeRange a r = joined (allBack (s .horizontal) (range s cs) (parts averages a) (parts residuals r))
-
   module _ (inside : s .begin + s .number ≤ length cs) (xs : List ℤ) (p : Laid xs) where
     arranged-parts : (i : Bool) → parts (arranged i residuals (after s cs)) (arranged i (p .r) (p .z)) ≡ arranged i (parts residuals (p .r)) (parts (after s cs) (p .z))
     arranged-parts true = parts-append residuals (after s cs) (p .r) (p .z) (p .long-r)
@@ -132,8 +136,8 @@ module _ (s : Step) (cs : List Channel) where
         ∙ parts-append (before s cs) (averages ++ arranged (s .inplace) residuals (after s cs)) (p .b) (p .a ++ arranged (s .inplace) (p .r) (p .z)) (p .long-b)
         ∙ rw (parts-append averages (arranged (s .inplace) residuals (after s cs)) (p .a) (arranged (s .inplace) (p .r) (p .z)) (p .long-a), arranged-parts (s .inplace))
 
-    pub back-laid : stepBack s cs xs ≡ p .b ++ (madeRange (p .a) (p .r) ++ p .z)
-    unfolding Runs.stepBack madeRange
+    pub back-laid : stepBack s cs xs ≡ p .b ++ (rangeFrom (s .horizontal) (range s cs) (p .a) (p .r) ++ p .z)
+    unfolding Runs.stepBack rangeFrom
     back-laid =
         let n = length-range s cs inside in
         let nb : length (parts (before s cs) (p .b)) ≡ s .begin = parts-count (before s cs) (p .b) (p .long-b) ∙ length-take-le (s .begin) cs (omega arith) in

@@ -26,18 +26,19 @@ use Rattle.plan.specs.Steps.{stepAt}
 use Rattle.plan.specs.Plans.{judgeSteps}
 use Rattle.plan.proofs.Runs.{none-refused}
 use Rattle.runs.specs.Runs.{stepBack, rebuilt}
-use Rattle.rebuild.specs.Run.{stepsFrom, StepFits, RunFits}
+use Rattle.rebuild.specs.Run.{standing, stepsFrom, StepFits, RunFits}
+use Rattle.rebuild.proofs.Standing.{none-stands}
 
 accepted-few : (cs : List Channel) → Accepted cs → total cs ≤ maxSamples
 unfolding Questions.totalAllowed
 accepted-few cs ok = leb-true (total cs) maxSamples (ok .samples)
 
 -- no steps left
-pub none-left : (s : Steps) (k : ℕ) (cs : List Channel) (xs : List ℤ) → s .count ≤ k → xs ≡ rebuilt (stepsFrom s k) cs xs
-none-left s k cs xs h = rw (table-none (stepAt s) k (s .count) h)
+pub none-left : (s : Steps) (k : ℕ) (cs : List Channel) (picture pyramid : List ℤ) → s .count ≤ k → standing 0 picture pyramid ≡ rebuilt (stepsFrom s k) cs pyramid
+none-left s k cs picture pyramid h = none-stands picture pyramid ∙ rw (table-none (stepAt s) k (s .count) h)
 
 -- the k-th step, st, leaves the list of `next`
-module _ (l : ChannelList) (s : Steps) (k : ℕ) (xs work : List ℤ) (f : RunFits l s k xs work) (h : k < s .count)
+module _ (l : ChannelList) (s : Steps) (k : ℕ) (pyramid picture work : List ℤ) (f : RunFits l s k pyramid picture work) (h : k < s .count)
     (st : Step) (es : st ≡ stepAt s k) (next : Stepped) (en : next ≡ taken st l) where
   first : stepsFrom s k ≡ st ∷ stepsFrom s (k + 1)
   first = table-rest (stepAt s) k (s .count) h ∙ rw es
@@ -60,27 +61,29 @@ module _ (l : ChannelList) (s : Steps) (k : ℕ) (xs work : List ℤ) (f : RunFi
   leaves : channels (next .list) ≡ stepped st (channels l)
   leaves = ap channels left ∙ channels-packed (stepped st (channels l)) (reached .few)
 
-  pub next-fits : RunFits (next .list) s (k + 1) xs work
+  pub next-fits : RunFits (next .list) s (k + 1) pyramid picture work
   next-fits =
-      let n = ap total leaves ∙ stepped-total st (channels l) in
       record {
         accepted = ap judgeList left ∙ packed-accepted (stepped st (channels l)) reached;
         few = f .few;
         taken = rw leaves (answers .1);
-        picture-long = f .picture-long ∙ sym n;
-        work-long = f .work-long ∙ sym n;
+        pyramid-long = f .pyramid-long ∙ sym (ap total leaves ∙ stepped-total st (channels l));
+        picture-long = f .picture-long;
+        work-long = f .work-long;
       }
 
-  pub step-fits : (ys zs : List ℤ) → length ys ≡ length xs → length zs ≡ length work → StepFits l (next .list) st ys zs
-  step-fits ys zs ly lz =
+  pub step-fits : (t : ℕ) (ys zs : List ℤ) → t ≤ length pyramid → length ys ≡ length picture → length zs ≡ length work
+      → StepFits l (next .list) st pyramid t ys zs
+  step-fits t ys zs reached′ ly lz =
       record {
         inside = ok .inside;
         leaves = leaves;
         few = accepted-few (channels l) was;
-        picture-long = ly ∙ f .picture-long;
+        pyramid-long = f .pyramid-long;
+        stands = record { long = ly ∙ f .picture-long; reached = reached′ };
         work-long = lz ∙ f .work-long;
       }
 
-  pub step-last : (ys out : List ℤ) → ys ≡ rebuilt (stepsFrom s (k + 1)) (channels (next .list)) xs → out ≡ stepBack st (channels l) ys
-      → out ≡ rebuilt (stepsFrom s k) (channels l) xs
+  pub step-last : (ys out : List ℤ) → ys ≡ rebuilt (stepsFrom s (k + 1)) (channels (next .list)) pyramid → out ≡ stepBack st (channels l) ys
+      → out ≡ rebuilt (stepsFrom s k) (channels l) pyramid
   step-last ys out ey eo = rw (first, eq-eqb (judgeStep st (channels l)) 0 (answers .0)) (eo ∙ ap (stepBack st (channels l)) (ey ∙ rw leaves))

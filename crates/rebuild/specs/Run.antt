@@ -1,10 +1,10 @@
 -- What the parts of a plan run ask of their callers and give them: a channel, a step's range, a step, the steps from one on. Definitions only.
 use mathlib.Core.Path.{_≡_}
 use mathlib.Core.Bool.{Bool}
-use mathlib.Core.List.{List}
+use mathlib.Core.List.{List, _++_}
 use Prim.Native.Nat.{ℕ, _+_, _-_, _≤_}
 use lib.IntN.{ℤ}
-use lib.ListN.{length, drop}
+use lib.ListN.{length, take, drop}
 use Rattle.numbers.specs.Numbers.{maxSamples}
 use Rattle.channel.specs.declared.Channel.{Channel}
 use Rattle.channel.specs.Channel.{samples}
@@ -26,33 +26,76 @@ pub record ChannelFits (horizontal : Bool) (c : Channel) (avg res out : List ℤ
   pub out-long : length out ≡ samples c
   pub few : samples c ≤ maxSamples
 
--- the samples of channels from their averages at the front of a slice and their residuals from `residuals` on
-unfoldable pub rangeFrom : Bool → List Channel → List ℤ → ℕ → List ℤ
-rangeFrom horizontal cs work residuals =
-    joined (allBack horizontal cs (parts (map (average horizontal) cs) work) (parts (map (residual horizontal) cs) (drop residuals work)))
+-- ---- a range
+-- the samples of channels from their averages at the front of one slice and their residuals at the front of another
+unfoldable pub rangeFrom : Bool → List Channel → List ℤ → List ℤ → List ℤ
+rangeFrom horizontal cs avg res =
+    joined (allBack horizontal cs (parts (map (average horizontal) cs) avg) (parts (map (residual horizontal) cs) res))
 
-pub record RangeFits (l : ChannelList) (s : Step) (work : List ℤ) (residuals : ℕ) (picture : List ℤ) (start : ℕ) : Type 0 where
+pub record RangeFits (l : ChannelList) (s : Step) (avg res picture : List ℤ) (start : ℕ) : Type 0 where
   pub inside : s .begin + s .number ≤ length (channels l)
-  pub averages : total (map (average (s .horizontal)) (range s (channels l))) ≤ length work
-  pub rest : residuals + total (map (residual (s .horizontal)) (range s (channels l))) ≤ length work
+  pub averages : total (map (average (s .horizontal)) (range s (channels l))) ≤ length avg
+  pub rest : total (map (residual (s .horizontal)) (range s (channels l))) ≤ length res
   pub place : start + total (range s (channels l)) ≤ length picture
   pub few : length picture ≤ maxSamples
 
--- a step on the list l, which leaves the list `next`; the picture has the samples of either
-pub record StepFits (l next : ChannelList) (s : Step) (picture work : List ℤ) : Type 0 where
+-- ---- the samples of a list while a run goes on
+-- those before `touched` stand in the picture; no step has touched the others, which lie in the pyramid
+unfoldable pub standing : ℕ → List ℤ → List ℤ → List ℤ
+standing touched picture pyramid = take touched picture ++ drop touched pyramid
+
+pub record Stands (touched : ℕ) (picture pyramid : List ℤ) : Type 0 where
+  pub long : length picture ≡ length pyramid
+  pub reached : touched ≤ length pyramid
+
+-- the samples from one place to another
+abbrev pub cut : ℕ → ℕ → List ℤ → List ℤ
+cut from upto xs = take (upto - from) (drop from xs)
+
+pub record LoadFits (touched : ℕ) (picture pyramid : List ℤ) (from upto : ℕ) (work : List ℤ) : Type 0 where
+  pub stands : Stands touched picture pyramid
+  pub settled : from ≤ touched
+  pub order : from ≤ upto
+  pub inside : upto ≤ length pyramid
+  pub work-long : length work ≡ length pyramid
+
+-- a step's range over its averages: the residuals go from `residuals` to `moved`
+pub record OverFits (l : ChannelList) (s : Step) (pyramid : List ℤ) (touched from residuals moved : ℕ) (picture work : List ℤ) : Type 0 where
+  pub stands : Stands touched picture pyramid
+  pub settled : from ≤ touched
+  pub inside : s .begin + s .number ≤ length (channels l)
+  pub averages : from + total (map (average (s .horizontal)) (range s (channels l))) ≤ residuals
+  pub rest : residuals + total (map (residual (s .horizontal)) (range s (channels l))) ≤ moved
+  pub place : from + total (range s (channels l)) ≤ moved
+  pub ends : moved ≤ length pyramid
+  pub few : length pyramid ≤ maxSamples
+  pub work-long : length work ≡ length pyramid
+
+-- xs are the samples as they stood: the range is made in the picture, and what stood before the residuals is at the front of the work slice
+pub record Over (l : ChannelList) (s : Step) (xs : List ℤ) (from residuals moved : ℕ) (picture made work : List ℤ) : Type 0 where
+  pub range-made : made
+      ≡ take from picture
+      ++ (rangeFrom (s .horizontal) (range s (channels l)) (cut from residuals xs) (cut residuals moved xs) ++ drop (from + total (range s (channels l))) picture)
+  pub kept : take (residuals - from) work ≡ cut from residuals xs
+
+-- ---- steps
+-- a step on the list l, which leaves the list `next`; the slices have the samples of either
+pub record StepFits (l next : ChannelList) (s : Step) (pyramid : List ℤ) (touched : ℕ) (picture work : List ℤ) : Type 0 where
   pub inside : s .begin + s .number ≤ length (channels l)
   pub leaves : channels next ≡ stepped s (channels l)
   pub few : total (channels l) ≤ maxSamples
-  pub picture-long : length picture ≡ total (channels l)
-  pub work-long : length work ≡ total (channels l)
+  pub pyramid-long : length pyramid ≡ total (channels l)
+  pub stands : Stands touched picture pyramid
+  pub work-long : length work ≡ length pyramid
 
 -- the steps of a plan from the k-th on, and a run of them on the list l
 abbrev pub stepsFrom : Steps → ℕ → List Step
 stepsFrom s k = table (stepAt s) k (s .count - k)
 
-pub record RunFits (l : ChannelList) (s : Steps) (k : ℕ) (picture work : List ℤ) : Type 0 where
+pub record RunFits (l : ChannelList) (s : Steps) (k : ℕ) (pyramid picture work : List ℤ) : Type 0 where
   pub accepted : judgeList l ≡ 0
   pub few : s .count ≤ maxSteps
   pub taken : judgeSteps (stepsFrom s k) (channels l) ≡ 0
-  pub picture-long : length picture ≡ total (channels l)
-  pub work-long : length work ≡ total (channels l)
+  pub pyramid-long : length pyramid ≡ total (channels l)
+  pub picture-long : length picture ≡ length pyramid
+  pub work-long : length work ≡ length pyramid

@@ -1,21 +1,23 @@
 // The plan run (document 01, "Whole runs"): a picture rebuilt from its pyramid,
-// the steps of a plan taken last first, in place on the picture slice. Total:
-// questions 3 to 11 and 14 in that order, each refusal with its number and both
-// lent slices untouched.
+// the steps of a plan taken last first, in place on the picture slice; a sample
+// that no step has touched yet is left in the pyramid. Total: questions 3 to 11
+// and 14 in that order, each refusal with its number and both lent slices
+// untouched.
 ghost use mathlib.Core.Path.{_≡_};
 ghost use mathlib.Core.Bool.{cond};
 ghost use mathlib.Core.List.{_++_};
-ghost use Prim.Native.Nat.{_+_, _≤_};
+ghost use Prim.Native.Nat.{_+_, _≤_, min, max};
 ghost use lib.ListN.{length, take, drop};
-ghost use Rattle.numbers.specs.Numbers.{maxSamples};
 ghost use Rattle.channel.specs.Channel.{samples};
-ghost use Rattle.list.specs.Lists.{maxSteps, channels, average, residual, range, total};
+ghost use Rattle.list.specs.Lists.{maxSteps, channels, average, range, total};
+ghost use Rattle.line.specs.Forward.{averageCount};
 ghost use Rattle.tile.specs.Cut as Cut;
 ghost use Rattle.plan.specs.Steps as Spec;
 ghost use Rattle.plan.specs.Plans as Plans;
+ghost use Rattle.buffer.specs.Buffer.{copied};
 ghost use Rattle.runs.specs.Runs.{linesOf, sizeOf, channelBack, stepBack, rebuilt};
 ghost use Rattle.rebuild.specs.Rebuild.{answerOf, pictureAfter, workAfter};
-ghost use Rattle.rebuild.specs.Run.{rangeFrom, stepsFrom, ChannelFits, RangeFits, StepFits, RunFits};
+ghost use Rattle.rebuild.specs.Run.{cut, standing, rangeFrom, stepsFrom, ChannelFits, RangeFits, Stands, LoadFits, OverFits, Over, StepFits, RunFits};
 use channel::Channel;
 use list::ChannelList;
 use list::Step;
@@ -61,10 +63,17 @@ fn sides(horizontal: bool, lines: usize, n: usize) -> Sides
     }
 }
 
+// The averages along a channel's lines: half of the samples, rounded up.
+fn averages_along(c: Channel, horizontal: bool) -> usize
+    ensures { λ r. ⌜ r ≡ averageCount (sizeOf horizontal c) ⌝ }
+{
+    (along(c, horizontal) + 1) / 2
+}
+
 fn average_samples(c: Channel, horizontal: bool) -> usize
     ensures { λ r. ⌜ r ≡ samples (average horizontal c) ⌝ }
 {
-    across(c, horizontal) * ((along(c, horizontal) + 1) / 2)
+    across(c, horizontal) * averages_along(c, horizontal)
 }
 
 // A channel from its average and its residual: one tile without outer lines.
@@ -73,10 +82,9 @@ fn channel_back(c: Channel, horizontal: bool, avg: &[i32], res: &[i32], out: &mu
     ensures { λ _. ⌜ now (out .exit) ≡ channelBack horizontal c (now (avg .entry)) (now (res .entry)) ⌝ }
 {
     let lines = across(c, horizontal);
-    let size = along(c, horizontal);
-    let averages = (size + 1) / 2;
+    let averages = averages_along(c, horizontal);
     let a = sides(horizontal, lines, averages);
-    let r = sides(horizontal, lines, size - averages);
+    let r = sides(horizontal, lines, along(c, horizontal) - averages);
     let none = &avg[0..0];
     tile::squeeze_tile(
         horizontal as u32,
@@ -106,24 +114,24 @@ fn samples_before(list: ChannelList, n: usize) -> usize
     sum as usize
 }
 
-// The channels of a step's range, to the picture from `start` on: averages
-// stand at the front of the work slice, residuals from `residuals` on.
+// The channels of a step's range, to the picture from `start` on: their
+// averages stand at the front of `avg`, their residuals at the front of `res`.
 fn range_back(
     list: ChannelList,
     step: Step,
-    work: &[i32],
-    residuals: usize,
+    avg: &[i32],
+    res: &[i32],
     picture: &mut [i32],
     start: usize,
 )
-    requires { ⌜ RangeFits list step (now work) residuals (now picture) start ⌝ }
-    ensures { λ _. ⌜ now (picture .exit) ≡ take start (now (picture .entry)) ++ (rangeFrom (step .horizontal) (range step (channels list)) (now (work .entry)) residuals ++ drop (start + total (range step (channels list))) (now (picture .entry))) ⌝ }
+    requires { ⌜ RangeFits list step (now avg) (now res) (now picture) start ⌝ }
+    ensures { λ _. ⌜ now (picture .exit) ≡ take start (now (picture .entry)) ++ (rangeFrom (step .horizontal) (range step (channels list)) (now (avg .entry)) (now (res .entry)) ++ drop (start + total (range step (channels list))) (now (picture .entry))) ⌝ }
 {
     let horizontal = step.horizontal;
     let begin = step.begin as usize;
     let end = begin + step.number as usize;
     let mut a = 0;
-    let mut r = residuals;
+    let mut r = 0;
     let mut o = start;
     for k in begin..end {
         let c = list.channel(k);
@@ -132,16 +140,84 @@ fn range_back(
         let ae = a + averages;
         let re = r + (samples - averages);
         let oe = o + samples;
-        channel_back(
-            c,
-            horizontal,
-            &work[a..ae],
-            &work[r..re],
-            &mut picture[o..oe],
-        );
+        channel_back(c, horizontal, &avg[a..ae], &res[r..re], &mut picture[o..oe]);
         a = ae;
         r = re;
         o = oe;
+    }
+}
+
+fn smaller(m: usize, n: usize) -> usize
+    ensures { λ r. ⌜ r ≡ min m n ⌝ }
+{
+    if m < n { m } else { n }
+}
+
+fn larger(m: usize, n: usize) -> usize
+    ensures { λ r. ⌜ r ≡ max m n ⌝ }
+{
+    if m < n { n } else { m }
+}
+
+// While the steps are taken, the samples of the list stand in the picture up to
+// `touched`; the others, which no step has touched, lie in the pyramid. Here all
+// before `upto` come to the picture. Gives back how far it then goes.
+fn settle(pyramid: &[i32], touched: usize, upto: usize, picture: &mut [i32]) -> usize
+    requires { ⌜ Stands touched (now picture) (now pyramid) × (upto ≤ length (now pyramid)) ⌝ }
+    ensures { λ r. ⌜ (r ≡ max touched upto) × (standing r (now (picture .exit)) (now (pyramid .entry)) ≡ standing touched (now (picture .entry)) (now (pyramid .entry))) ⌝ }
+{
+    if touched < upto {
+        buffer::copy(&pyramid[touched..upto], &mut picture[touched..]);
+        return upto;
+    }
+    touched
+}
+
+// The samples from `from` to `upto`, from where they stand, to the front of
+// the work slice.
+fn load(
+    pyramid: &[i32],
+    touched: usize,
+    picture: &[i32],
+    from: usize,
+    upto: usize,
+    work: &mut [i32],
+)
+    requires { ⌜ LoadFits touched (now picture) (now pyramid) from upto (now work) ⌝ }
+    ensures { λ _. ⌜ now (work .exit) ≡ copied (cut from upto (standing touched (now (picture .entry)) (now (pyramid .entry)))) (now (work .entry)) ⌝ }
+{
+    let seam = smaller(touched, upto);
+    let at = seam - from;
+    buffer::copy(&picture[from..seam], work);
+    buffer::copy(&pyramid[seam..upto], &mut work[at..]);
+}
+
+// A step's range, made in the picture where its averages stand: these, and what
+// lies between them and the residuals, go to the work slice first. Residuals, from
+// `residuals` to `moved`, are read in the pyramid if no step has touched them, and
+// else go to the work slice too.
+fn range_over(
+    list: ChannelList,
+    step: Step,
+    pyramid: &[i32],
+    touched: usize,
+    from: usize,
+    residuals: usize,
+    moved: usize,
+    picture: &mut [i32],
+    work: &mut [i32],
+)
+    requires { ⌜ OverFits list step (now pyramid) touched from residuals moved (now picture) (now work) ⌝ }
+    ensures { λ _. ⌜ Over list step (standing touched (now (picture .entry)) (now (pyramid .entry))) from residuals moved (now (picture .entry)) (now (picture .exit)) (now (work .exit)) ⌝ }
+{
+    if touched <= residuals {
+        load(pyramid, touched, picture, from, residuals, work);
+        range_back(list, step, work, &pyramid[residuals..moved], picture, from);
+    } else {
+        let kept = residuals - from;
+        load(pyramid, touched, picture, from, moved, work);
+        let loaded = &work[..];
+        range_back(list, step, loaded, &loaded[kept..], picture, from);
     }
 }
 
@@ -153,17 +229,18 @@ fn moved_to(inplace: bool, to: usize, all: usize) -> usize
 }
 
 // One step back, from the samples of the list after it, `next`, to those of
-// `list`. What the step moves goes to the work slice first: averages, and
-// residuals last.
+// `list`: its range, and what lies behind it, which the step moves.
 fn step_back(
     list: ChannelList,
     next: ChannelList,
     step: Step,
+    pyramid: &[i32],
+    touched: usize,
     picture: &mut [i32],
     work: &mut [i32],
-)
-    requires { ⌜ StepFits list next step (now picture) (now work) ⌝ }
-    ensures { λ _. ⌜ now (picture .exit) ≡ stepBack step (channels list) (now (picture .entry)) ⌝ }
+) -> usize
+    requires { ⌜ StepFits list next step (now pyramid) touched (now picture) (now work) ⌝ }
+    ensures { λ r. ⌜ (r ≤ length (now (pyramid .entry))) × (standing r (now (picture .exit)) (now (pyramid .entry)) ≡ stepBack step (channels list) (standing touched (now (picture .entry)) (now (pyramid .entry)))) ⌝ }
 {
     let begin = step.begin as usize;
     let end = begin + step.number as usize;
@@ -171,35 +248,42 @@ fn step_back(
     let to = samples_before(list, end);
     let moved = moved_to(step.inplace, to, picture.len());
     let averages = samples_before(next, end) - from;
-    let residuals = averages + (moved - to);
-    buffer::copy(&picture[from..moved], work);
-    range_back(list, step, work, residuals, picture, from);
-    buffer::copy(&work[averages..residuals], &mut picture[to..]);
+    let kept = averages + (moved - to);
+    let settled = settle(pyramid, touched, from, picture);
+    range_over(
+        list,
+        step,
+        pyramid,
+        settled,
+        from,
+        from + kept,
+        moved,
+        picture,
+        work,
+    );
+    buffer::copy(&work[averages..kept], &mut picture[to..]);
+    larger(settled, moved)
 }
 
-// The steps from the k-th on, last first.
-fn rebuild_from(list: ChannelList, steps: Steps, k: usize, picture: &mut [i32], work: &mut [i32])
-    requires { ⌜ RunFits list steps k (now picture) (now work) ⌝ }
-    ensures { λ _. ⌜ now (picture .exit) ≡ rebuilt (stepsFrom steps k) (channels list) (now (picture .entry)) ⌝ }
+// The steps from the k-th on, last first; gives back how far the picture goes.
+fn rebuild_from(
+    list: ChannelList,
+    steps: Steps,
+    k: usize,
+    pyramid: &[i32],
+    picture: &mut [i32],
+    work: &mut [i32],
+) -> usize
+    requires { ⌜ RunFits list steps k (now pyramid) (now picture) (now work) ⌝ }
+    ensures { λ r. ⌜ (r ≤ length (now (pyramid .entry))) × (standing r (now (picture .exit)) (now (pyramid .entry)) ≡ rebuilt (stepsFrom steps k) (channels list) (now (pyramid .entry))) ⌝ }
 {
     if k < steps.count {
         let step = steps.step(k);
         let next = list.step(step).list;
-        rebuild_from(next, steps, k + 1, picture, work);
-        step_back(list, next, step, picture, work);
+        let touched = rebuild_from(next, steps, k + 1, pyramid, picture, work);
+        return step_back(list, next, step, pyramid, touched, picture, work);
     }
-}
-
-// The steps that are meant: no steps mean the default plan.
-fn meant(list: ChannelList, steps: Steps) -> Steps
-    requires { ⌜ Plans.judgePlan list steps ≡ 0 ⌝ }
-    ensures { λ r. ⌜ Spec.steps r ≡ Plans.meant (Spec.steps steps) (channels list) ⌝ }
-    ensures room { λ r. ⌜ r .count ≤ maxSteps ⌝ }
-{
-    if steps.count != 0 {
-        return steps;
-    }
-    plan::default_squeeze(list).steps
+    0
 }
 
 // The picture that a pyramid holds under a plan. The answer is 0, or the
@@ -221,8 +305,9 @@ pub fn rebuild(
     if !((pyramid.len() == total) & ((picture.len() == total) & (work.len() == total))) {
         return REFUSED_LENGTH;
     }
-    buffer::copy(pyramid, picture);
-    rebuild_from(list, meant(list, steps), 0, picture, work);
+    let meant = plan::meant_steps(list, steps);
+    let touched = rebuild_from(list, meant, 0, pyramid, picture, work);
+    settle(pyramid, touched, total, picture);
     buffer::clear(work);
     0
 }

@@ -14,14 +14,8 @@ use Rattle.plan.specs.declared.Steps.{Steps}
 use Rattle.plan.specs.Steps.{steps}
 use Rattle.plan.specs.Plans.{judgePlan, meant}
 use Rattle.runs.specs.Runs.{squeezed}
-use Rattle.buffer.specs.Buffer as Buffer
 use Rattle.buffer.specs.Buffer.{zeros}
 use Rattle.write.specs.Write.{slicesFit, answer, written, cleared}
-
--- zeros go by the length
-pub zeros-same : (xs ys : List ℤ) → length xs ≡ length ys → zeros xs ≡ zeros ys
-unfolding Buffer.zeros
-zeros-same xs ys e = rw e
 
 -- ---- the slices
 pub fit-tested : (cs : List Channel) (t : ℕ) (picture pyramid work : List ℤ) → t ≡ total cs

@@ -16,20 +16,20 @@ use Rattle.rebuild.proofs.step_back.Reads as step-back-reads
 use Rattle.rebuild.proofs.+rebuild_from.{statement}
 use Rattle.rebuild.proofs.+rebuild_from.Tie.{close}
 
-abbrev μ-rebuild-from : Measures 2 rebuild-from-kinds.ps ℕ
+abbrev μ-rebuild-from : Measures 3 rebuild-from-kinds.ps ℕ
 μ-rebuild-from κs a = a .1 .0 .count - a .1 .1 .0
 
 -- what `rebuild_from` is given at the measure t, and what a call of it asks below t
-abbrev rebuild-from-at : ℕ → In 2 rebuild-from-kinds.ps
+abbrev rebuild-from-at : ℕ → In 3 rebuild-from-kinds.ps
 rebuild-from-at t =
-    and 2 rebuild-from-kinds.ps (is 2 rebuild-from-kinds.ps μ-rebuild-from t) rebuild-from.Pre
+    and 3 rebuild-from-kinds.ps (is 3 rebuild-from-kinds.ps μ-rebuild-from t) rebuild-from.Pre
 
-abbrev rebuild-from-below : ℕ → In 2 rebuild-from-kinds.ps
+abbrev rebuild-from-below : ℕ → In 3 rebuild-from-kinds.ps
 rebuild-from-below t =
     and
-    2
+    3
     rebuild-from-kinds.ps
-    (falls 2 rebuild-from-kinds.ps _<_ μ-rebuild-from t)
+    (falls 3 rebuild-from-kinds.ps _<_ μ-rebuild-from t)
     rebuild-from.Pre
 
 rebuild-from-step-requires : (t : ℕ) → rebuild-from-lts.Need-step-requires (
@@ -79,15 +79,13 @@ rebuild-from-rebuild-from-requires : (t : ℕ) → rebuild-from-lts.Need-rebuild
   step-back-reads.Learnt,
 ) (rebuild-from-at t) rebuild-from.Post
 rebuild-from-rebuild-from-requires t c κs =
-    let start = c .before .before .before .before .before .before .before in
-    let less = c .before .before .before .before .before .if1 .taken in
+    let m = c .before .before .before in
+    let start = m .before .before .before .before in
+    let a = start .args in
+    let less = m .before .before .if1 .taken in
     let now = start .pre .0 in (
       omega arith,
-      let m = c .before .before .before in
-          let start = m .before .before .before .before in
-          let a = start .args in
-          next-fits (a .list) (a .steps) (a .k) (a .picture .now) (a .work .now) (start .pre .1) (m .before .before .if1 .taken) (m .before .step .result) (m .before .step .ensures)
-          (m .step2 .result) (m .step2 .ensures),
+      next-fits (a .list) (a .steps) (a .k) (a .pyramid .now) (a .picture .now) (a .work .now) (start .pre .1) less (m .before .step .result) (m .before .step .ensures) (m .step2 .result) (m .step2 .ensures),
     )
 
 rebuild-from-step-back-requires : (t : ℕ) → rebuild-from-lts.Need-step-back-requires (
@@ -101,11 +99,12 @@ rebuild-from-step-back-requires : (t : ℕ) → rebuild-from-lts.Need-step-back-
   step-back-reads.Learnt,
 ) (rebuild-from-at t) rebuild-from.Post
 rebuild-from-step-back-requires t c κs =
+    let run = c .before .before .before .before .rebuild-from in
     let m = c .before .before .before .before .before .before .before .before in
     let start = m .before .before .before .before in
     let a = start .args in
-    step-fits (a .list) (a .steps) (a .k) (a .picture .now) (a .work .now) (start .pre .1) (m .before .before .if1 .taken) (m .before .step .result) (m .before .step .ensures)
-    (m .step2 .result) (m .step2 .ensures) _ _ (c .before .before .before .before .rebuild-from .kept .1 .1 .1 .0) (c .before .before .before .before .rebuild-from .kept .1 .1 .1 .1 .0)
+    step-fits (a .list) (a .steps) (a .k) (a .pyramid .now) (a .picture .now) (a .work .now) (start .pre .1) (m .before .before .if1 .taken) (m .before .step .result) (m .before .step .ensures)
+    (m .step2 .result) (m .step2 .ensures) _ _ _ (run .ensures .0) (run .kept .1 .1 .1 .1 .0) (run .kept .1 .1 .1 .1 .1 .0)
 
 rebuild-from-same-length : (t : ℕ) → rebuild-from-lts.Need-same-length (
   Steps-step-reads.Asked,
@@ -117,7 +116,7 @@ rebuild-from-same-length : (t : ℕ) → rebuild-from-lts.Need-same-length (
   step-back-reads.Asked,
   step-back-reads.Learnt,
 ) (rebuild-from-at t) rebuild-from.Post
-rebuild-from-same-length t c = c .before .before .step-back .kept .1 .1 .1 .0 ∙ c .before .before .before .before .before .before .before .rebuild-from .kept .1 .1 .1 .0
+rebuild-from-same-length t c = c .before .before .step-back .kept .1 .1 .1 .1 .1 .0 ∙ c .before .before .before .before .before .before .before .rebuild-from .kept .1 .1 .1 .1 .0
 
 rebuild-from-same-length-2 : (t : ℕ) → rebuild-from-lts.Need-same-length-2 (
   Steps-step-reads.Asked,
@@ -129,7 +128,7 @@ rebuild-from-same-length-2 : (t : ℕ) → rebuild-from-lts.Need-same-length-2 (
   step-back-reads.Asked,
   step-back-reads.Learnt,
 ) (rebuild-from-at t) rebuild-from.Post
-rebuild-from-same-length-2 t c = c .before .before .step-back .kept .1 .1 .1 .1 .0 ∙ c .before .before .before .before .before .before .before .rebuild-from .kept .1 .1 .1 .1 .0
+rebuild-from-same-length-2 t c = c .before .before .step-back .kept .1 .1 .1 .1 .1 .1 .0 ∙ c .before .before .before .before .before .before .before .rebuild-from .kept .1 .1 .1 .1 .1 .0
 
 rebuild-from-returns : (t : ℕ) → rebuild-from-lts.Need-returns (
   Steps-step-reads.Asked,
@@ -142,11 +141,15 @@ rebuild-from-returns : (t : ℕ) → rebuild-from-lts.Need-returns (
   step-back-reads.Learnt,
 ) (rebuild-from-at t) rebuild-from.Post
 rebuild-from-returns t c =
+    let back = c .before .before .step-back in
+    let run = c .before .before .before .before .before .before .before .rebuild-from in
     let m = c .before .before .before .before .before .before .before .before .before .before .before in
     let start = m .before .before .before .before in
-    let a = start .args in
-    step-last (a .list) (a .steps) (a .k) (a .picture .now) (a .work .now) (start .pre .1) (m .before .before .if1 .taken) (m .before .step .result) (m .before .step .ensures)
-    (m .step2 .result) (m .step2 .ensures) _ _ (c .before .before .before .before .before .before .before .rebuild-from .ensures) (c .before .before .step-back .ensures)
+    let a = start .args in (
+      back .ensures .0,
+      step-last (a .list) (a .steps) (a .k) (a .pyramid .now) (a .picture .now) (a .work .now) (start .pre .1) (m .before .before .if1 .taken) (m .before .step .result) (m .before .step .ensures)
+          (m .step2 .result) (m .step2 .ensures) _ _ (run .ensures .1) (back .ensures .1),
+    )
 
 rebuild-from-returns-2 : (t : ℕ) → rebuild-from-lts.Need-returns-2 (
   Steps-step-reads.Asked,
@@ -160,7 +163,7 @@ rebuild-from-returns-2 : (t : ℕ) → rebuild-from-lts.Need-returns-2 (
 ) (rebuild-from-at t) rebuild-from.Post
 rebuild-from-returns-2 t c =
     let a = c .before .before .args in
-    none-left (a .steps) (a .k) _ (a .picture .now) (c .if1 .left)
+    (omega arith, none-left (a .steps) (a .k) _ (a .picture .now) (a .pyramid .now) (c .if1 .left))
 
 pub +rebuild-from-spec : {M : Type 1} → statement M
 +rebuild-from-spec = close μ-rebuild-from λ t. rebuild-from-lts.spec (

@@ -1,7 +1,7 @@
--- `average_samples` meets its contract: the lines by half of the samples along them (crate runs); sides of 16 bits keep the product small.
+-- `average_samples` meets its contract: the lines by the averages along them (crate runs); sides of 16 bits keep the product small.
 -- Assumes nothing.
 use mathlib.Core.Path.{sym}
-use Prim.Native.Nat.{_+_, _/_, _≤_}
+use Prim.Native.Nat.{_≤_}
 use native.Mathlib.Omega.{arith}
 use native.Mathlib.Nat.{mul-le-mul}
 use borrow.Author.Needs.{needs}
@@ -13,14 +13,8 @@ use Rattle.rebuild.proofs.average_samples.Tie as tie
 across-requires : tie.Need-across-requires
 across-requires c κs = search needs
 
-along-requires : tie.Need-along-requires
-along-requires c κs = search needs
-
-add-result : tie.Need-add-result
-add-result c =
-    let q = c .before .before in
-    let small = size-small (q .args .horizontal) (q .args .c) (omega arith) (omega arith) in
-    omega (arith, c .along .ensures)
+averages-along-requires : tie.Need-averages-along-requires
+averages-along-requires c κs = search needs
 
 mul-result : tie.Need-mul-result
 mul-result c =
@@ -28,16 +22,15 @@ mul-result c =
     let lines = lines-small (q .args .horizontal) (q .args .c) (omega arith) (omega arith) in
     let size = size-small (q .args .horizontal) (q .args .c) (omega arith) (omega arith) in
     let el = c .before .across .ensures in
-    let es = c .along .ensures in
+    let es = c .averages-along .ensures in
     let l : c .before .across .result ≤ 65535 = omega arith in
-    let s : (c .along .result + 1) / 2 ≤ 65535 = omega arith in
+    let s : c .averages-along .result ≤ 65535 = omega arith in
     omega (arith, mul-le-mul l s)
 
 returns : tie.Need-returns
 returns c =
     let q = c .before .before in
-    rw (c .before .across .ensures, c .along .ensures) (sym (average-samples (q .args .horizontal) (q .args .c)))
+    rw (c .before .across .ensures, c .averages-along .ensures) (sym (average-samples (q .args .horizontal) (q .args .c)))
 
 pub average-samples-spec : {M : Type 1} → statement M
-average-samples-spec =
-    tie.close (tie.spec across-requires along-requires add-result mul-result returns)
+average-samples-spec = tie.close (tie.spec across-requires averages-along-requires mul-result returns)

@@ -2,24 +2,21 @@
 use mathlib.Core.Path.{_∙_}
 use native.Mathlib.Omega.{arith}
 use borrow.Author.Needs.{needs}
-use Rattle.rebuild.proofs.OneTile.{size-small, one-tile}
+use Rattle.rebuild.proofs.OneTile.{one-tile}
 use Rattle.rebuild.proofs.channel_back.Statement.{statement}
 use Rattle.rebuild.proofs.channel_back.Tie as tie
 
 across-requires : tie.Need-across-requires
 across-requires c κs = search needs
 
-along-requires : tie.Need-along-requires
-along-requires c κs = search needs
-
-add-averages : tie.Need-add-averages
-add-averages c =
-    let q = c .before .before in
-    let small = size-small (q .args .horizontal) (q .args .c) (omega arith) (omega arith) in
-    omega (arith, c .along .ensures)
+averages-along-requires : tie.Need-averages-along-requires
+averages-along-requires c κs = search needs
 
 sides-requires : tie.Need-sides-requires
 sides-requires c κs = search needs
+
+along-requires : tie.Need-along-requires
+along-requires c κs = search needs
 
 sub-sides : tie.Need-sub-sides
 sub-sides c = search needs
@@ -54,22 +51,23 @@ same-length c = search needs
 returns : tie.Need-returns
 returns c =
     let q = c .before .before .before .before .before .before in
-    let start = q .before .before .before .before in
+    let start = q .before .before .before .before .before in
     let a = start .args in
-    let el = q .before .before .before .across .ensures in
-    let es = q .before .before .along .ensures in
+    let el = q .before .before .before .before .across .ensures in
+    let ea = q .before .before .before .averages-along .ensures in
+    let es = q .before .along .ensures in
     c .before .squeeze-tile .ensures .1
-    ∙ one-tile (a .horizontal) (a .c) (omega arith) (omega arith) (a .avg .now) (a .res .now) (a .out .now) (start .pre) (q .before .sides .result) (q .sides2 .result)
-    (q .before .sides .ensures ∙ rw (el, es)) (q .sides2 .ensures ∙ rw (el, es))
+    ∙ one-tile (a .horizontal) (a .c) (omega arith) (omega arith) (a .avg .now) (a .res .now) (a .out .now) (start .pre) (q .before .before .sides .result) (q .sides2 .result)
+    (q .before .before .sides .ensures ∙ rw (el, ea)) (q .sides2 .ensures ∙ rw (el, ea, es))
 
 pub channel-back-spec : {M : Type 1} → statement M
 channel-back-spec =
     tie.close
     (tie.spec
     across-requires
-    along-requires
-    add-averages
+    averages-along-requires
     sides-requires
+    along-requires
     sub-sides
     sides-requires-2
     sub-none

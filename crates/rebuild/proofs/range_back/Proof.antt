@@ -21,14 +21,14 @@ use Rattle.rebuild.proofs.range_back.Statement.{statement}
 use Rattle.rebuild.proofs.range_back.Tie as tie
 
 abbrev Inv-loop : tie.InvT-loop
-Inv-loop list work residuals picture₀ start horizontal begin end a₀ r₀ o₀ k₀ picture a r o k =
+Inv-loop list avg res picture₀ start horizontal begin end a₀ r₀ o₀ k₀ picture a r o k =
     (k ≤ end)
-    × Written horizontal (table (channelAt list) k (end - k)) work picture₀
-    (take start picture₀ ++ rangeFrom horizontal (table (channelAt list) begin (end - begin)) work residuals)
+    × Written horizontal (table (channelAt list) k (end - k)) avg res picture₀
+    (take start picture₀ ++ rangeFrom horizontal (table (channelAt list) begin (end - begin)) avg res)
     (start + total (table (channelAt list) begin (end - begin))) picture a r o
 
 abbrev μ-loop : tie.MeasureT-loop
-μ-loop list work residuals picture₀ start horizontal begin end a₀ r₀ o₀ k₀ picture a r o k = end - k
+μ-loop list avg res picture₀ start horizontal begin end a₀ r₀ o₀ k₀ picture a r o k = end - k
 
 -- where a channel's sizes are known, and the room that it finds there
 abbrev Known : Type 0
@@ -45,7 +45,7 @@ Known =
     ) reads.Pre reads.Post Inv-loop μ-loop
 
 room : (m : Known) →
-    Counted (m .before .before .before .before .before .before .before .args .work .now) (m .before .before .before .before .loop .picture) (m .before .before .before .before .loop .a) (m .before .before .before .before .loop .r) (m .before .before .before .before .loop .o) (m .average-samples .result)
+    Counted (m .before .before .before .before .before .before .before .args .avg .now) (m .before .before .before .before .before .before .before .args .res .now) (m .before .before .before .before .loop .picture) (m .before .before .before .before .loop .a) (m .before .before .before .before .loop .r) (m .before .before .before .before .loop .o) (m .average-samples .result)
     (m .before .samples .result)
 room m =
     let head = m .before .before .before .before in
@@ -68,7 +68,7 @@ loop-holds c =
     let p = start .pre in
     let e = channels-range (start .args .list) (start .args .step) (p .inside) in (
       omega arith,
-      written-none _ _ _ _ (start .args .residuals) (start .args .start) (rw e at (p .averages)) (rw e at (p .rest)) (rw e at (p .place)) (p .few),
+      written-none _ _ _ _ _ (start .args .start) (rw e at (p .averages)) (rw e at (p .rest)) (rw e at (p .place)) (p .few),
     )
 
 channel-requires : tie.Need-channel-requires Inv-loop μ-loop

@@ -2,7 +2,8 @@
 use mathlib.Core.Path.{sym, _∙_}
 use borrow.Author.Needs.{needs}
 use borrow.Author.Tests.{not-true, not-false}
-use Rattle.rebuild.proofs.Outcome.{rewritten-answer, run-fits, ends-refused, ends-misfit, lengths, ends-done}
+use Rattle.plan.proofs.Judged.{plan-answer, judged-counts}
+use Rattle.rebuild.proofs.Outcome.{run-fits, ends-refused, ends-misfit, lengths, settle-fits, ends-done}
 use Rattle.rebuild.proofs.rebuild.Statement.{statement}
 use Rattle.rebuild.proofs.rebuild.Tie as tie
 
@@ -13,7 +14,7 @@ returns : tie.Need-returns
 returns c =
     let w = c .before .rewrite in
     let a = c .before .before .args in
-    ends-refused (a .list) (a .steps) (a .pyramid .now) (a .picture .now) (a .work .now) (w .result .answer) (rewritten-answer (a .list) (a .steps) (w .result) (w .ensures))
+    ends-refused (a .list) (a .steps) (a .pyramid .now) (a .picture .now) (a .work .now) (w .result .answer) (plan-answer (a .list) (a .steps) (w .result) (w .ensures))
     (c .if1 .taken)
 
 total-requires : tie.Need-total-requires
@@ -24,35 +25,35 @@ returns-2 c =
     let m = c .before in
     let w = m .before .before .rewrite in
     let a = m .before .before .before .args in
-    let ea = rewritten-answer (a .list) (a .steps) (w .result) (w .ensures) in
+    let ea = plan-answer (a .list) (a .steps) (w .result) (w .ensures) in
     let ok = m .before .if1 .left in
     ends-misfit (a .list) (a .steps) (a .pyramid .now) (a .picture .now) (a .work .now) (w .result .answer) ea ok (m .total .result) (m .total .ensures) (not-true _ (c .if2 .taken))
 
-copy-requires : tie.Need-copy-requires
-copy-requires c κs = search needs
-
-meant-requires : tie.Need-meant-requires
-meant-requires c κs =
-    let m = c .before .before .before .before in
-    let w = m .before .before .rewrite in
-    let a = m .before .before .before .args in
-    let ea = rewritten-answer (a .list) (a .steps) (w .result) (w .ensures) in
-    let ok = m .before .if1 .left in
-    sym ea ∙ ok
+meant-steps-requires : tie.Need-meant-steps-requires
+meant-steps-requires c κs = search needs
 
 rebuild-from-requires : tie.Need-rebuild-from-requires
 rebuild-from-requires c κs =
-    let m = c .before .before .before .before .before .before .before in
+    let m = c .before .before .before .before in
     let w = m .before .before .rewrite in
     let a = m .before .before .before .args in
-    let ea = rewritten-answer (a .list) (a .steps) (w .result) (w .ensures) in
+    let ea = plan-answer (a .list) (a .steps) (w .result) (w .ensures) in
     let ok = m .before .if1 .left in
-    let n =
-    lengths (a .list) (a .steps) (a .pyramid .now) (a .picture .now) (a .work .now) (w .result .answer) ea ok (m .total .result) (m .total .ensures)
-    (not-false _ (c .before .before .before .before .before .before .if2 .left))
-    in
-    run-fits (a .list) (a .steps) (sym ea ∙ ok) (c .before .before .meant .result) (c .before .before .meant .ensures .0) (c .before .before .meant .ensures .1) _ _
-    (c .before .before .before .before .copy .kept .1 .0 ∙ n .1) (n .2)
+    let steps = c .before .before .meant-steps in
+    run-fits (a .list) (a .steps) (sym ea ∙ ok) (steps .result) (steps .ensures .0) (steps .ensures .1 (judged-counts (a .list) (a .steps) (sym ea ∙ ok) .1)) (a .pyramid .now) (a .picture .now) (a .work .now)
+    (lengths (a .list) (a .steps) (a .pyramid .now) (a .picture .now) (a .work .now) (w .result .answer) ea ok (m .total .result) (m .total .ensures)
+    (not-false _ (c .before .before .before .if2 .left)))
+
+settle-requires : tie.Need-settle-requires
+settle-requires c κs =
+    let m = c .before .before .before .before .before .before .before .before in
+    let w = m .before .before .rewrite in
+    let a = m .before .before .before .args in
+    let ea = plan-answer (a .list) (a .steps) (w .result) (w .ensures) in
+    let ok = m .before .if1 .left in
+    let run = c .before .before .before .rebuild-from in
+    settle-fits (a .list) (a .steps) (a .pyramid .now) (a .picture .now) (a .work .now) (w .result .answer) ea ok (m .total .result) (m .total .ensures)
+    (not-false _ (c .before .before .before .before .before .before .before .if2 .left)) _ _ (run .ensures .0) (run .kept .1 .1 .1 .1 .0)
 
 clear-requires : tie.Need-clear-requires
 clear-requires c κs = search needs
@@ -68,12 +69,15 @@ returns-3 c =
     let m = c .before .before .before .before .before .before .before .before .before .before .before .before .before in
     let w = m .before .before .rewrite in
     let a = m .before .before .before .args in
-    let ea = rewritten-answer (a .list) (a .steps) (w .result) (w .ensures) in
+    let ea = plan-answer (a .list) (a .steps) (w .result) (w .ensures) in
     let ok = m .before .if1 .left in
+    let steps = c .before .before .before .before .before .before .before .before .before .before .before .meant-steps in
+    let run = c .before .before .before .before .before .before .before .before .rebuild-from in
+    let settle = c .before .before .before .before .settle in
+    let clear = c .before .clear in
     ends-done (a .list) (a .steps) (a .pyramid .now) (a .picture .now) (a .work .now) (w .result .answer) ea ok (m .total .result) (m .total .ensures)
-    (not-false _ (c .before .before .before .before .before .before .before .before .before .before .before .before .if2 .left)) (c .before .before .before .before .before .before .before .before .meant .result) (c .before .before .before .before .before .before .before .before .meant .ensures .0) (c .before .before .before .before .before .before .before .before .meant .ensures .1)
-    (c .before .before .before .before .before .before .before .before .before .before .copy .last .1 .0) (c .before .before .before .before .before .rebuild-from .last .1 .1 .1 .0) (c .before .before .before .before .before .rebuild-from .last .1 .1 .1 .1 .0) (c .before .clear .last .0)
-    (c .before .before .before .before .before .before .before .before .before .before .copy .ensures) (c .before .before .before .before .before .rebuild-from .ensures) (c .before .before .before .before .before .rebuild-from .kept .1 .1 .1 .1 .0) (c .before .clear .ensures)
+    (not-false _ (c .before .before .before .before .before .before .before .before .before .before .before .before .if2 .left)) (steps .result) (steps .ensures .0) (steps .ensures .1 (judged-counts (a .list) (a .steps) (sym ea ∙ ok) .1)) _ _ _ _ _ _ (run .ensures) (run .kept .1 .1 .1 .1 .1 .0) (clear .ensures) (settle .ensures)
+    (settle .kept .1 .1 .1 .0 ∙ run .kept .1 .1 .1 .1 .0)
 
 pub rebuild-spec : {M : Type 1} → statement M
 rebuild-spec =
@@ -83,9 +87,9 @@ rebuild-spec =
     returns
     total-requires
     returns-2
-    copy-requires
-    meant-requires
+    meant-steps-requires
     rebuild-from-requires
+    settle-requires
     clear-requires
     same-length
     same-length-2

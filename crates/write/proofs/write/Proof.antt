@@ -9,9 +9,9 @@ use Rattle.list.proofs.Asking.{no, yes}
 use Rattle.plan.specs.Steps.{steps}
 use Rattle.plan.specs.Plans.{judgePlan, meant}
 use Rattle.plan.proofs.Judged.{plan-answer, judged-list, judged-counts, meant-judged, meant-is}
-use Rattle.buffer.proofs.Overwritten.{copied-all}
+use Rattle.buffer.proofs.Overwritten.{zeros-same, copied-all}
 use Rattle.write.specs.Write.{slicesFit}
-use Rattle.write.proofs.Answered.{zeros-same, fit-tested, fit-lengths, plan-refused, slices-refused, accepted}
+use Rattle.write.proofs.Answered.{fit-tested, fit-lengths, plan-refused, slices-refused, accepted}
 use Rattle.write.proofs.write.Statement.{statement}
 use Rattle.write.proofs.write.Tie as tie
 
