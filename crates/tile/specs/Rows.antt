@@ -17,11 +17,9 @@ pub record Upto (s : Squeeze) (out : List ℤ) (j : ℕ) : Type 0 where
   pub long : length out ≡ s .lines * size s
   pub done : (k i : ℕ) → k < s .lines → i < j → getD out (at s k i) (pos 0) ≡ sample (lineOf s k) i
 
--- the pairs before pair i are written in each of eight rows, and `own` and `prior` are the rows' averages of pair i and outputs before it
-pub record Turn (s : Squeeze) (out own prior : List ℤ) (i : ℕ) : Type 0 where
+-- the pairs before pair i are written in each of eight rows, and `prior` are the rows' outputs before it
+pub record Turn (s : Squeeze) (out prior : List ℤ) (i : ℕ) : Type 0 where
   pub inside : i ≤ s .residuals
   pub done : Upto s out (i + i)
-  pub own-long : length own ≡ 8
   pub prior-long : length prior ≡ 8
-  pub own-at : (k : ℕ) → k < 8 → i < s .averages → getD own k (pos 0) ≡ getD (s .avg) (k * s .averages + i) (pos 0)
   pub prior-at : (k : ℕ) → k < 8 → getD prior k (pos 0) ≡ before (lineOf s k) i

@@ -40,13 +40,6 @@ fn next_lanes(avg: &[i32], next: &[i32], i: usize, m: usize, own: [i32; 8]) -> [
     }
 }
 
-// Where eight rows stand: their averages of the next pair, and the samples
-// before it.
-struct Edge {
-    own: [i32; 8],
-    before: [i32; 8],
-}
-
 // Eight samples of each of eight rows of n, from position `at` on, row after row.
 fn part_of(s: &[i32], at: usize, n: usize) -> [i32; 64]
     requires { ⌜ (at + 8 ≤ n) × (length (now s) ≡ 8 * n) ⌝ }
@@ -66,31 +59,30 @@ fn part_of(s: &[i32], at: usize, n: usize) -> [i32; 64]
 fn part_pairs(
     avg: &[i32],
     res: &[i32],
-    edge: Edge,
+    prior: [i32; 8],
     i: usize,
     m: usize,
     n: usize,
     out: &mut [i32],
-) -> Edge
+) -> [i32; 8]
     requires { ⌜ Fitting (squeeze true 8 m n (now avg) (now res) [] []) × (i + 8 < n) × (length (now out) ≡ 8 * (m + n)) ⌝ }
-    ensures { λ r. ⌜ ((next prev : List ℤ) → Turn (squeeze true 8 m n (now (avg .entry)) (now (res .entry)) next prev) (now (out .entry)) (edge .own) (edge .before) i → Turn (squeeze true 8 m n (now (avg .entry)) (now (res .entry)) next prev) (now (out .exit)) (r .own) (r .before) (i + 8)) ⌝ }
+    ensures { λ r. ⌜ ((next prev : List ℤ) → Turn (squeeze true 8 m n (now (avg .entry)) (now (res .entry)) next prev) (now (out .entry)) prior i → Turn (squeeze true 8 m n (now (avg .entry)) (now (res .entry)) next prev) (now (out .exit)) r (i + 8)) ⌝ }
 {
     let size = m + n;
     let part = part_of(res, i, n);
-    let mut own = edge.own;
-    let mut before = edge.before;
+    let mut before = prior;
     for j in 0..8 {
         let p = i + j;
+        let own = load_lanes(avg, p, m);
         let following = load_lanes(avg, p + 1, m);
         let pairs = block::unsqueeze_block(own, load_lanes(&part, j, 8), following, before);
         let firsts = pairs[0];
         let seconds = pairs[1];
         store_lanes(out, p + p, size, firsts);
         store_lanes(out, p + p + 1, size, seconds);
-        own = following;
         before = seconds;
     }
-    Edge { own, before }
+    before
 }
 
 // The pairs from the given one on, and the tail.
@@ -98,32 +90,31 @@ fn last_pairs(
     avg: &[i32],
     res: &[i32],
     next: &[i32],
-    edge: Edge,
+    prior: [i32; 8],
     from: usize,
     m: usize,
     n: usize,
     out: &mut [i32],
 )
     requires { ⌜ Fitting (squeeze true 8 m n (now avg) (now res) (now next) []) × (0 < m) × (from ≤ n) × (length (now out) ≡ 8 * (m + n)) ⌝ }
-    ensures { λ _. ⌜ ((prev : List ℤ) → Turn (squeeze true 8 m n (now (avg .entry)) (now (res .entry)) (now (next .entry)) prev) (now (out .entry)) (edge .own) (edge .before) from → now (out .exit) ≡ uncut (squeeze true 8 m n (now (avg .entry)) (now (res .entry)) (now (next .entry)) prev)) ⌝ }
+    ensures { λ _. ⌜ ((prev : List ℤ) → Turn (squeeze true 8 m n (now (avg .entry)) (now (res .entry)) (now (next .entry)) prev) (now (out .entry)) prior from → now (out .exit) ≡ uncut (squeeze true 8 m n (now (avg .entry)) (now (res .entry)) (now (next .entry)) prev)) ⌝ }
 {
     let size = m + n;
-    let mut own = edge.own;
-    let mut before = edge.before;
+    let mut before = prior;
     let mut i = from;
     while i < n {
+        let own = load_lanes(avg, i, m);
         let following = next_lanes(avg, next, i, m, own);
         let pairs = block::unsqueeze_block(own, load_lanes(res, i, n), following, before);
         let firsts = pairs[0];
         let seconds = pairs[1];
         store_lanes(out, i + i, size, firsts);
         store_lanes(out, i + i + 1, size, seconds);
-        own = following;
         before = seconds;
         i += 1;
     }
     if n < m {
-        store_lanes(out, n + n, size, own);
+        store_lanes(out, n + n, size, load_lanes(avg, n, m));
     }
 }
 
@@ -140,15 +131,14 @@ fn eight_rows(
     requires { ⌜ Fitting (squeeze true 8 m n (now avg) (now res) (now next) (now prev)) × (0 < m) × (length (now out) ≡ 8 * (m + n)) ⌝ }
     ensures { λ _. ⌜ now (out .exit) ≡ uncut (squeeze true 8 m n (now (avg .entry)) (now (res .entry)) (now (next .entry)) (now (prev .entry))) ⌝ }
 {
-    let own = load_lanes(avg, 0, m);
-    let before = outer_lanes(prev, own);
-    let mut edge = Edge { own, before };
+    let mut before = outer_lanes(prev, load_lanes(avg, 0, m));
     let mut i = 0;
     while 8 < n - i {
-        edge = part_pairs(avg, res, edge, i, m, n, out);
+        let last = part_pairs(avg, res, before, i, m, n, out);
+        before = last;
         i += 8;
     }
-    last_pairs(avg, res, next, edge, i, m, n, out);
+    last_pairs(avg, res, next, before, i, m, n, out);
 }
 
 // The sample of an outer line, or what stands in for it.

@@ -1,6 +1,6 @@
 -- `eight_rows` meets its contract. The loop's invariant: the rows stand at pair i (`Turn` of specs/Rows.antt). The measure is the pairs that are
 -- left. Assumes nothing.
-use mathlib.Core.Path.{_≡_, refl, _∙_}
+use mathlib.Core.Path.{refl}
 use mathlib.Core.Bool.{true}
 use mathlib.Core.List.{[]}
 use mathlib.Core.Logic.{inl}
@@ -14,10 +14,10 @@ use Rattle.tile.proofs.rows.eight_rows.Statement.{statement}
 use Rattle.tile.proofs.rows.eight_rows.Tie as tie
 
 abbrev Inv-loop : tie.InvT-loop
-Inv-loop avg res next prev m n out₀ edge₀ i₀ out edge i = Turn (squeeze true 8 m n avg res next prev) out (edge .own) (edge .before) i
+Inv-loop avg res next prev m n out₀ before₀ i₀ out before i = Turn (squeeze true 8 m n avg res next prev) out before i
 
 abbrev μ-loop : tie.MeasureT-loop
-μ-loop avg res next prev m n out₀ edge₀ i₀ out edge i = n - i
+μ-loop avg res next prev m n out₀ before₀ i₀ out before i = n - i
 
 load-lanes-requires : tie.Need-load-lanes-requires Inv-loop μ-loop
 load-lanes-requires c κs = search needs
@@ -29,7 +29,7 @@ loop-holds : tie.Need-loop-holds Inv-loop μ-loop
 loop-holds c =
     let a = c .before .before .args in
     turn-none (a .m) (a .n) (a .avg .now) (a .res .now) (a .next .now) (a .prev .now) (a .out .now) _ _ (omega arith)
-    (search needs) (search needs) (c .before .load-lanes .ensures) (c .outer-lanes .ensures)
+    (search needs) (c .before .load-lanes .ensures) (c .outer-lanes .ensures)
 
 sub-loop : tie.Need-sub-loop Inv-loop μ-loop
 sub-loop c = search needs
