@@ -1,6 +1,6 @@
 -- Eight samples of each of eight rows of n, from position `at` on, taken out row after row (`Taken`): each row is put in as eight neighbouring
 -- samples, and once all eight are, lane j of the part is lane at + j of the rows. Assumes nothing.
-use mathlib.Core.Path.{_≡_, refl, ap, _∙_}
+use mathlib.Core.Path.{_≡_, _∙_}
 use mathlib.Core.List.{List}
 use mathlib.Core.Logic.{_⊎_, inl, inr}
 use Prim.Native.Nat.{ℕ, _+_, _*_, _<_, _≤_}

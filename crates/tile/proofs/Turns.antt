@@ -1,5 +1,6 @@
 -- A turn of the loops over one row and over eight rows (src/rows.rt): the two samples of pair i are written in each row, and what stands
--- before the next pair is known (`Along`, and `Turn` of specs/Rows.antt). The rows' averages and the output before them are lanes, one a row. Assumes nothing.
+-- before the next pair is known (`Along`, and `Turn` of specs/Rows.antt). The rows' averages and the output before them are lanes, one a row.
+-- Assumes nothing.
 use mathlib.Core.Path.{_≡_, sym, ap, _∙_}
 use mathlib.Core.Bool.{true, cond}
 use mathlib.Core.List.{List}

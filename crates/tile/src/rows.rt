@@ -53,9 +53,11 @@ fn part_of(s: &[i32], at: usize, n: usize) -> [i32; 64]
 }
 
 // The eight pairs from pair i on, of which none is the last. Their residuals are
-// taken out first: where the length of a row is a power of two, the cache lines
-// of the eight rows of averages and of the eight rows of residuals fall into one
-// set of the cache, which does not hold them all, and each access would miss.
+// taken out first, row by row: where the length of a row is a power of two, the
+// cache lines of eight rows fall together into one set of the cache, which holds
+// those of the averages or those of the residuals but not both, and each access
+// would miss. The averages are read anew for each pair, which costs less than to
+// keep eight more values.
 fn part_pairs(
     avg: &[i32],
     res: &[i32],

@@ -1,5 +1,5 @@
 -- `part_of` meets its contract: a row a turn (proofs/Taken.antt). Assumes nothing.
-use mathlib.Core.Path.{_≡_, refl}
+use mathlib.Core.Path.{refl}
 use Prim.Native.Nat.{_+_, _-_, _*_, _<_}
 use native.Mathlib.Omega.{arith}
 use borrow.Author.Needs.{needs}
