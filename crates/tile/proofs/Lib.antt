@@ -1,4 +1,5 @@
 pub mod Strides
+pub mod Taken
 pub mod Outers
 pub mod Written
 pub mod Turns

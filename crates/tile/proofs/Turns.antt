@@ -1,8 +1,10 @@
 -- A turn of the loops over one row and over eight rows (src/rows.rt): the two samples of pair i are written in each row, and what stands
--- before the next pair is known. The rows' own averages and the output before them are lanes, one a row. Assumes nothing.
+-- before the next pair is known (`Along`, and `Turn` of specs/Rows.antt). The rows' averages and the output before them are lanes, one a row.
+-- Assumes nothing.
 use mathlib.Core.Path.{_≡_, sym, ap, _∙_}
 use mathlib.Core.Bool.{true, cond}
 use mathlib.Core.List.{List}
+use mathlib.Core.Logic.{_⊎_}
 use Prim.Native.Nat.{ℕ, _+_, _*_, _%_, _<_, _≤_}
 use native.Mathlib.Omega.{arith}
 use native.Mathlib.Numerals.{add-one}
@@ -15,12 +17,13 @@ use Rattle.pair.specs.Pair.{first, second}
 use Rattle.block.specs.Block.{lanes}
 use Rattle.block.proofs.Lanes.{laned}
 use Rattle.line.specs.Line.{orElse, nextAverage, before, firstAt, secondAt, sample}
-use Rattle.line.specs.Uncut.{Squeeze, squeeze, lineOf, outer, uncut}
+use Rattle.line.specs.Uncut.{Squeeze, squeeze, Fitting, lineOf, outer, uncut}
 use Rattle.tile.specs.Lanes.{lanesAt, withLanes}
+use Rattle.tile.specs.Rows.{Upto, Turn}
 use Rattle.line.proofs.Places.{rest-of}
 use Rattle.line.proofs.Lines.{sample-first, sample-second, sample-tail, before-next, before-first}
 use Rattle.tile.proofs.Strides.{lanes-at, lanes-length, lanes-put-length, lanes-put-on, lanes-put-off}
-use Rattle.tile.proofs.Written.{Upto, Step, upto-none, upto-more, upto-all}
+use Rattle.tile.proofs.Written.{Step, upto-none, upto-more, upto-all}
 
 -- different positions of rows lie apart
 apart : (k l i j n : ℕ) → i < j → j < n → k * n + i ≡ j + l * n → ⊥
@@ -29,18 +32,30 @@ apart k l i j n d h e =
     let r = sym (rest-of k n i (omega arith)) ∙ ap (λ (x : ℕ). x % n) (e ∙ c) ∙ rest-of l n j h in
     omega arith
 
+-- the next averages of pair i where the rows have them
+pub next-inside : (avg next own : List ℤ) (i m k : ℕ) → i + 1 < m → k < 8
+    → getD (lanesAt avg (i + 1) m) k (pos 0) ≡ cond (ltb (i + 1) m) (getD avg (k * m + (i + 1)) (pos 0)) (orElse (outer next k) (getD own k (pos 0)))
+next-inside avg next own i m k h hk =
+    let e : i + 1 + k * m ≡ k * m + (i + 1) = omega arith in
+    rw (lt-ltb (i + 1) m h) (lanes-at avg (i + 1) m k hk ∙ rw e)
+
 module _ (m n : ℕ) (avg res next prev : List ℤ) where
   -- ---- eight rows
   abbrev pub rows : Squeeze
   rows = squeeze true 8 m n avg res next prev
 
-  pub record Turn (out own prior : List ℤ) (i : ℕ) : Type 0 where
-    pub inside : i ≤ n
-    pub done : Upto rows out (i + i)
-    pub own-long : length own ≡ 8
-    pub prior-long : length prior ≡ 8
-    pub own-at : (k : ℕ) → k < 8 → i < m → getD own k (pos 0) ≡ getD avg (k * m + i) (pos 0)
-    pub prior-at : (k : ℕ) → k < 8 → getD prior k (pos 0) ≡ before (lineOf rows k) i
+  -- they fit with any outer lines of eight samples or none
+  pub fit-with : (next′ prev′ : List ℤ) → (length next′ ≡ 0) ⊎ (length next′ ≡ 8) → (length prev′ ≡ 0) ⊎ (length prev′ ≡ 8) → Fitting rows
+      → Fitting (squeeze true 8 m n avg res next′ prev′)
+  fit-with next′ prev′ hn hp f =
+      record {
+        low = f .low;
+        high = f .high;
+        avg-length = f .avg-length;
+        res-length = f .res-length;
+        next-length = hn;
+        prev-length = hp;
+      }
 
   -- position j of eight rows
   pub put-lanes : (out b : List ℤ) (j : ℕ) → j < m + n → length out ≡ 8 * (m + n)
@@ -56,64 +71,64 @@ module _ (m n : ℕ) (avg res next prev : List ℤ) where
             lanes-put-off out j (m + n) b (k * (m + n) + i) (λ l hl q. apart k l i j (m + n) hi h q);
       }
 
-  pub turn-none : (out own prior : List ℤ) → length out ≡ 8 * (m + n) → length own ≡ 8 → length prior ≡ 8
+  own-lane : (k i : ℕ) → k < 8 → getD (lanesAt avg i m) k (pos 0) ≡ getD avg (k * m + i) (pos 0)
+  own-lane k i hk = let c : i + k * m ≡ k * m + i = omega arith in lanes-at avg i m k hk ∙ rw c
+
+  res-lane : (k i : ℕ) → k < 8 → getD (lanesAt res i n) k (pos 0) ≡ getD res (k * n + i) (pos 0)
+  res-lane k i hk = let c : i + k * n ≡ k * n + i = omega arith in lanes-at res i n k hk ∙ rw c
+
+  pub turn-none : (out own prior : List ℤ) → length out ≡ 8 * (m + n) → length prior ≡ 8
       → own ≡ lanesAt avg 0 m
       → ((k : ℕ) → k < 8 → getD prior k (pos 0) ≡ orElse (outer prev k) (getD own k (pos 0)))
-      → Turn out own prior 0
+      → Turn rows out prior 0
   unfolding lineOf
-  turn-none out own prior e lo lp eo ep =
+  turn-none out own prior e lp eo ep =
       record {
         inside = omega arith;
         done = upto-none rows out e;
-        own-long = lo;
         prior-long = lp;
-        own-at = λ k hk hm. own-first k hk;
-        prior-at = λ k hk. ep k hk ∙ rw (own-first k hk) (sym (before-first (lineOf rows k)));
+        prior-at = λ k hk. ep k hk ∙ rw (eo, own-lane k 0 hk) (sym (before-first (lineOf rows k)));
       }
-    where
-      own-first : (k : ℕ) → k < 8 → getD own k (pos 0) ≡ getD avg (k * m + 0) (pos 0)
-      own-first k hk = let c : 0 + k * m ≡ k * m + 0 = omega arith in rw eo (lanes-at avg 0 m k hk ∙ rw c)
 
   pub turn-more : (out own prior following firsts seconds : List ℤ) (i : ℕ) → i < n → n ≤ m → length following ≡ 8
+      → own ≡ lanesAt avg i m
       → ((k : ℕ) → k < 8 → getD following k (pos 0) ≡ cond (ltb (i + 1) m) (getD avg (k * m + (i + 1)) (pos 0)) (orElse (outer next k) (getD own k (pos 0))))
       → firsts ≡ lanes first own (lanesAt res i n) following prior
       → seconds ≡ lanes second own (lanesAt res i n) following prior
-      → Turn out own prior i
-      → Turn (withLanes (withLanes out (i + i) (m + n) firsts) (i + i + 1) (m + n) seconds) following seconds (i + 1)
+      → Turn rows out prior i
+      → Turn rows (withLanes (withLanes out (i + i) (m + n) firsts) (i + i + 1) (m + n) seconds) seconds (i + 1)
   unfolding lineOf nextAverage
-  turn-more out own prior following firsts seconds i h low lf ef e1 e2 t =
+  turn-more out own prior following firsts seconds i h low lf eo ef e1 e2 t =
       record {
         inside = omega arith;
         done = both;
-        own-long = lf;
-        prior-long = rw e2 (laned second 8 own (lanesAt res i n) following prior (t .own-long) lr lf (t .prior-long) .long);
-        own-at = λ k hk hm. ef k hk ∙ rw (lt-ltb (i + 1) m hm);
+        prior-long = rw e2 (laned second 8 own (lanesAt res i n) following prior lo lr lf (t .prior-long) .long);
         prior-at = λ k hk. rw add-one (second-lane k hk ∙ sym (before-next (lineOf rows k) i));
       }
     where
+      lo : length own ≡ 8
+      lo = rw eo (lanes-length avg i m)
+
       lr : length (lanesAt res i n) ≡ 8
       lr = lanes-length res i n
 
-      own-lane : (k : ℕ) → k < 8 → getD own k (pos 0) ≡ getD avg (k * m + i) (pos 0)
-      own-lane k hk = t .own-at k hk (omega arith)
+      own-at : (k : ℕ) → k < 8 → getD own k (pos 0) ≡ getD avg (k * m + i) (pos 0)
+      own-at k hk = rw eo (own-lane k i hk)
 
-      res-lane : (k : ℕ) → k < 8 → getD (lanesAt res i n) k (pos 0) ≡ getD res (k * n + i) (pos 0)
-      res-lane k hk = let c : i + k * n ≡ k * n + i = omega arith in lanes-at res i n k hk ∙ rw c
-
-      next-lane : (k : ℕ) → k < 8 → getD following k (pos 0) ≡ nextAverage (lineOf rows k) i
-      next-lane k hk = ef k hk ∙ rw (own-lane k hk)
+      next-at : (k : ℕ) → k < 8 → getD following k (pos 0) ≡ nextAverage (lineOf rows k) i
+      next-at k hk = ef k hk ∙ rw (own-at k hk)
 
       first-lane : (k : ℕ) → k < 8 → getD firsts k (pos 0) ≡ firstAt (lineOf rows k) i
       first-lane k hk =
           rw e1
-          (laned first 8 own (lanesAt res i n) following prior (t .own-long) lr lf (t .prior-long) .at k hk
-          ∙ rw (own-lane k hk, res-lane k hk, next-lane k hk, t .prior-at k hk))
+          (laned first 8 own (lanesAt res i n) following prior lo lr lf (t .prior-long) .at k hk
+          ∙ rw (own-at k hk, res-lane k i hk, next-at k hk, t .prior-at k hk))
 
       second-lane : (k : ℕ) → k < 8 → getD seconds k (pos 0) ≡ secondAt (lineOf rows k) i
       second-lane k hk =
           rw e2
-          (laned second 8 own (lanesAt res i n) following prior (t .own-long) lr lf (t .prior-long) .at k hk
-          ∙ rw (own-lane k hk, res-lane k hk, next-lane k hk, t .prior-at k hk))
+          (laned second 8 own (lanesAt res i n) following prior lo lr lf (t .prior-long) .at k hk
+          ∙ rw (own-at k hk, res-lane k i hk, next-at k hk, t .prior-at k hk))
 
       mid : List ℤ
       mid = withLanes out (i + i) (m + n) firsts
@@ -133,20 +148,21 @@ module _ (m n : ℕ) (avg res next prev : List ℤ) where
           one)
 
   -- no residual is left: a tail average is copied
-  pub turn-tail : (out own prior : List ℤ) (i : ℕ) → n ≤ i → n < m → m ≤ n + 1 → Turn out own prior i → withLanes out (n + n) (m + n) own ≡ uncut rows
+  pub turn-tail : (out own prior : List ℤ) (i : ℕ) → n ≤ i → n < m → m ≤ n + 1 → own ≡ lanesAt avg n m → Turn rows out prior i
+      → withLanes out (n + n) (m + n) own ≡ uncut rows
   unfolding lineOf
-  turn-tail out own prior i h l high t =
+  turn-tail out own prior i h l high eo t =
       let s = t .inside in
       let e : i ≡ n = omega arith in
       let d = rw e at (t .done) in
       upto-all rows (withLanes out (n + n) (m + n) own) (n + n + 1) (omega arith)
       (upto-more rows out (withLanes out (n + n) (m + n) own) (n + n)
       (put-lanes out own (n + n) (omega arith) (d .long)
-      (λ k hk. rw e at (t .own-at k hk (omega arith)) ∙ sym (sample-tail (lineOf rows k) n (omega arith))))
+      (λ k hk. rw eo (own-lane k n hk) ∙ sym (sample-tail (lineOf rows k) n (omega arith))))
       d)
 
-  pub turn-all : (out own prior : List ℤ) (i : ℕ) → n ≤ i → m ≤ n → Turn out own prior i → out ≡ uncut rows
-  turn-all out own prior i h l t = upto-all rows out (i + i) (omega arith) (t .done)
+  pub turn-all : (out prior : List ℤ) (i : ℕ) → n ≤ i → m ≤ n → Turn rows out prior i → out ≡ uncut rows
+  turn-all out prior i h l t = upto-all rows out (i + i) (omega arith) (t .done)
 
   -- ---- one row
   abbrev pub row : Squeeze

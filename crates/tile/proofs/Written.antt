@@ -1,4 +1,4 @@
--- The output of a squeeze written position by position, in every line at once (`Upto`): a step writes position j of each line and nothing
+-- The output of a squeeze written position by position, in every line at once (`Upto` of specs/Rows.antt): a step writes position j of each line and nothing
 -- else of them (`Step`), and once all positions are written the slice is the uncut squeeze. Assumes nothing.
 use mathlib.Core.Path.{_≡_, _∙_}
 use mathlib.Core.List.{List}
@@ -8,18 +8,11 @@ use native.Mathlib.Omega.{arith}
 use lib.IntN.{ℤ, pos}
 use lib.ListN.{length, getD}
 use Rattle.line.specs.Line.{sample}
-use Rattle.line.specs.Uncut.{Squeeze, place, lineAt, positionAt, lineOf, size, outputAt, uncut}
+use Rattle.line.specs.Uncut.{Squeeze, lineAt, positionAt, lineOf, size, outputAt, uncut}
+use Rattle.tile.specs.Rows.{at, Upto}
 use Rattle.line.proofs.Tables.{is-table, table-length}
 use Rattle.line.proofs.Places.{line-room, position-room, place-back}
 use Rattle.line.proofs.Lines.{lt-or-ge}
-
--- where position i of line k lies in the output
-abbrev pub at : Squeeze → ℕ → ℕ → ℕ
-at s k i = place (s .horizontal) (s .lines) (size s) k i
-
-pub record Upto (s : Squeeze) (out : List ℤ) (j : ℕ) : Type 0 where
-  pub long : length out ≡ s .lines * size s
-  pub done : (k i : ℕ) → k < s .lines → i < j → getD out (at s k i) (pos 0) ≡ sample (lineOf s k) i
 
 pub record Step (s : Squeeze) (old new : List ℤ) (j : ℕ) : Type 0 where
   pub long : length new ≡ length old

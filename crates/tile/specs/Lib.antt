@@ -1,4 +1,5 @@
 pub mod Lanes
+pub mod Rows
 pub mod Pairs
 pub mod Call
 pub mod Cut

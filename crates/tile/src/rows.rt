@@ -3,14 +3,16 @@
 // has put questions 5, 12 and 14.
 ghost use mathlib.Core.Path.{_≡_};
 ghost use mathlib.Core.Bool.{true, cond};
-ghost use mathlib.Core.List.{_++_};
+ghost use mathlib.Core.List.{List, [], _++_};
 ghost use mathlib.Core.Logic.{_⊎_};
 ghost use Prim.Native.Nat.{ℕ, _+_, _-_, _*_, _<_, _≤_};
 ghost use lib.Dec.{ltb};
-ghost use lib.IntN.{pos};
+ghost use lib.IntN.{ℤ, pos};
 ghost use lib.ListN.{length, getD, take, drop};
 ghost use Rattle.line.specs.Line.{orElse};
 ghost use Rattle.line.specs.Uncut.{squeeze, uncut, Fitting, outer};
+ghost use Rattle.tile.specs.Lanes.{lanesAt};
+ghost use Rattle.tile.specs.Rows.{Turn};
 use crate::lanes::load_lanes;
 use crate::lanes::store_lanes;
 
@@ -38,6 +40,86 @@ fn next_lanes(avg: &[i32], next: &[i32], i: usize, m: usize, own: [i32; 8]) -> [
     }
 }
 
+// Eight samples of each of eight rows of n, from position `at` on, row after row.
+fn part_of(s: &[i32], at: usize, n: usize) -> [i32; 64]
+    requires { ⌜ (at + 8 ≤ n) × (length (now s) ≡ 8 * n) ⌝ }
+    ensures { λ r. ⌜ ((j : ℕ) → j < 8 → lanesAt r j 8 ≡ lanesAt (now (s .entry)) (at + j) n) ⌝ }
+{
+    let mut part = [0i32; 64];
+    for k in 0..8 {
+        store_lanes(&mut part, 8 * k, 1, load_lanes(s, at + k * n, 1));
+    }
+    part
+}
+
+// The eight pairs from pair i on, of which none is the last. Their residuals are
+// taken out first, row by row: where the length of a row is a power of two, the
+// cache lines of eight rows fall together into one set of the cache, which holds
+// those of the averages or those of the residuals but not both, and each access
+// would miss. The averages are read anew for each pair, which costs less than to
+// keep eight more values.
+fn part_pairs(
+    avg: &[i32],
+    res: &[i32],
+    prior: [i32; 8],
+    i: usize,
+    m: usize,
+    n: usize,
+    out: &mut [i32],
+) -> [i32; 8]
+    requires { ⌜ Fitting (squeeze true 8 m n (now avg) (now res) [] []) × (i + 8 < n) × (length (now out) ≡ 8 * (m + n)) ⌝ }
+    ensures { λ r. ⌜ ((next prev : List ℤ) → Turn (squeeze true 8 m n (now (avg .entry)) (now (res .entry)) next prev) (now (out .entry)) prior i → Turn (squeeze true 8 m n (now (avg .entry)) (now (res .entry)) next prev) (now (out .exit)) r (i + 8)) ⌝ }
+{
+    let size = m + n;
+    let part = part_of(res, i, n);
+    let mut before = prior;
+    for j in 0..8 {
+        let p = i + j;
+        let own = load_lanes(avg, p, m);
+        let following = load_lanes(avg, p + 1, m);
+        let pairs = block::unsqueeze_block(own, load_lanes(&part, j, 8), following, before);
+        let firsts = pairs[0];
+        let seconds = pairs[1];
+        store_lanes(out, p + p, size, firsts);
+        store_lanes(out, p + p + 1, size, seconds);
+        before = seconds;
+    }
+    before
+}
+
+// The pairs from the given one on, and the tail.
+fn last_pairs(
+    avg: &[i32],
+    res: &[i32],
+    next: &[i32],
+    prior: [i32; 8],
+    from: usize,
+    m: usize,
+    n: usize,
+    out: &mut [i32],
+)
+    requires { ⌜ Fitting (squeeze true 8 m n (now avg) (now res) (now next) []) × (0 < m) × (from ≤ n) × (length (now out) ≡ 8 * (m + n)) ⌝ }
+    ensures { λ _. ⌜ ((prev : List ℤ) → Turn (squeeze true 8 m n (now (avg .entry)) (now (res .entry)) (now (next .entry)) prev) (now (out .entry)) prior from → now (out .exit) ≡ uncut (squeeze true 8 m n (now (avg .entry)) (now (res .entry)) (now (next .entry)) prev)) ⌝ }
+{
+    let size = m + n;
+    let mut before = prior;
+    let mut i = from;
+    while i < n {
+        let own = load_lanes(avg, i, m);
+        let following = next_lanes(avg, next, i, m, own);
+        let pairs = block::unsqueeze_block(own, load_lanes(res, i, n), following, before);
+        let firsts = pairs[0];
+        let seconds = pairs[1];
+        store_lanes(out, i + i, size, firsts);
+        store_lanes(out, i + i + 1, size, seconds);
+        before = seconds;
+        i += 1;
+    }
+    if n < m {
+        store_lanes(out, n + n, size, load_lanes(avg, n, m));
+    }
+}
+
 // Eight rows of m averages and n residuals each.
 fn eight_rows(
     avg: &[i32],
@@ -51,24 +133,14 @@ fn eight_rows(
     requires { ⌜ Fitting (squeeze true 8 m n (now avg) (now res) (now next) (now prev)) × (0 < m) × (length (now out) ≡ 8 * (m + n)) ⌝ }
     ensures { λ _. ⌜ now (out .exit) ≡ uncut (squeeze true 8 m n (now (avg .entry)) (now (res .entry)) (now (next .entry)) (now (prev .entry))) ⌝ }
 {
-    let size = m + n;
-    let mut own = load_lanes(avg, 0, m);
-    let mut before = outer_lanes(prev, own);
+    let mut before = outer_lanes(prev, load_lanes(avg, 0, m));
     let mut i = 0;
-    while i < n {
-        let following = next_lanes(avg, next, i, m, own);
-        let pairs = block::unsqueeze_block(own, load_lanes(res, i, n), following, before);
-        let firsts = pairs[0];
-        let seconds = pairs[1];
-        store_lanes(out, i + i, size, firsts);
-        store_lanes(out, i + i + 1, size, seconds);
-        own = following;
-        before = seconds;
-        i += 1;
+    while 8 < n - i {
+        let last = part_pairs(avg, res, before, i, m, n, out);
+        before = last;
+        i += 8;
     }
-    if n < m {
-        store_lanes(out, n + n, size, own);
-    }
+    last_pairs(avg, res, next, before, i, m, n, out);
 }
 
 // The sample of an outer line, or what stands in for it.

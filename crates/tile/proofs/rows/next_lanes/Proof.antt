@@ -1,10 +1,8 @@
 -- `next_lanes` meets its contract: the next averages where the rows have them, else those of the outer line. Assumes nothing.
-use mathlib.Core.Path.{_≡_, _∙_}
-use Prim.Native.Nat.{_+_, _*_}
-use native.Mathlib.Omega.{arith}
+use Prim.Native.Nat.{_+_}
 use borrow.Author.Needs.{needs}
-use borrow.Author.Tests.{lt-ltb, le-ltb}
-use Rattle.tile.proofs.Strides.{lanes-at}
+use borrow.Author.Tests.{le-ltb}
+use Rattle.tile.proofs.Turns.{next-inside}
 use Rattle.tile.proofs.rows.next_lanes.Statement.{statement}
 use Rattle.tile.proofs.rows.next_lanes.Tie as tie
 
@@ -24,8 +22,7 @@ returns : tie.Need-returns
 returns c =
     λ k hk.
     let a = c .before .before .args in
-    let e : a .i + 1 + k * a .m ≡ k * a .m + (a .i + 1) = omega arith in
-    rw (c .load-lanes .ensures, lt-ltb (a .i + 1) (a .m) (c .before .if1 .taken)) (lanes-at (a .avg .now) (a .i + 1) (a .m) k hk ∙ rw e)
+    rw (c .load-lanes .ensures) (next-inside (a .avg .now) (a .next .now) (a .own) (a .i) (a .m) k (c .before .if1 .taken) hk)
 
 returns-2 : tie.Need-returns-2
 returns-2 c =
