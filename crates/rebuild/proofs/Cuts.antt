@@ -19,7 +19,7 @@ cut-long a e xs h =
 pub cut-at : (a e : ℕ) (u v w : List ℤ) → length u ≡ a → a + length v ≡ e → cut a e (u ++ (v ++ w)) ≡ v
 cut-at a e u v w hu hv = rw (drop-at u (v ++ w) a hu) (take-at v w (e - a) (omega arith))
 
-further : (a e : ℕ) (xs : List ℤ) → a ≤ e → drop (e - a) (drop a xs) ≡ drop e xs
+pub further : (a e : ℕ) (xs : List ℤ) → a ≤ e → drop (e - a) (drop a xs) ≡ drop e xs
 further a e xs h =
     let o : a + (e - a) ≡ e = omega arith in
     drop-drop (e - a) a xs ∙ ap (λ (i : ℕ). drop i xs) o

@@ -7,12 +7,12 @@ use Prim.Native.Nat.{ℕ, _+_, _-_, _<_, _≤_, min, max}
 use native.Mathlib.Omega.{arith}
 use lib.IntN.{ℤ}
 use lib.ListN.{length, take, drop, length-append, length-drop, take-append-drop, drop-of-length-le}
-use lib.Seq.{take-at, drop-at, drop-drop, take-all, take-take, take-append-le, drop-append-le, take-append-add, length-take-le}
+use lib.Seq.{take-at, drop-at, take-all, take-take, take-append-le, drop-append-le, take-append-add, length-take-le}
 use Rattle.line.proofs.Lines.{lt-or-ge}
 use Rattle.buffer.specs.Buffer.{copied}
 use Rattle.buffer.proofs.Overwritten.{copied-front}
 use Rattle.rebuild.specs.Run.{cut, standing, Stands}
-use Rattle.rebuild.proofs.Cuts.{cut-long, cut-split, cut-rest, cut-front, pasted}
+use Rattle.rebuild.proofs.Cuts.{cut-long, further, cut-split, cut-rest, cut-front, pasted}
 
 -- ---- the ends of a run: nothing in the picture yet, and all of it
 pub none-stands : (p q : List ℤ) → standing 0 p q ≡ q
@@ -48,13 +48,7 @@ module _ (t : ℕ) (p q : List ℤ) (s : Stands t p q) where
 
   pub in-pyramid : (m : ℕ) → t ≤ m → drop m (standing t p q) ≡ drop m q
   unfolding standing
-  in-pyramid m h =
-      let o : m ≡ t + (m - t) = omega arith in
-      ap (λ (i : ℕ). drop i (take t p ++ drop t q)) o
-      ∙ sym (drop-drop (m - t) t (take t p ++ drop t q))
-      ∙ ap (drop (m - t)) (drop-at (take t p) (drop t q) t picture-part)
-      ∙ drop-drop (m - t) t q
-      ∙ ap (λ (i : ℕ). drop i q) (sym o)
+  in-pyramid m h = sym (further t m (take t p ++ drop t q) h) ∙ ap (drop (m - t)) (drop-at (take t p) (drop t q) t picture-part) ∙ further t m q h
 
   across-seam : (from upto seam : ℕ) → from ≤ t → from ≤ upto → upto ≤ length q → seam ≡ min t upto
       → cut from upto (standing t p q) ≡ cut from seam p ++ cut seam upto q
