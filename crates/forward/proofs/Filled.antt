@@ -91,6 +91,6 @@ area false lines m = mul-comm m lines
 pub part-length : (at w : ℕ) (out : List ℤ) → at + w ≤ length out → length (take w (drop at out)) ≡ w
 part-length at w out h = let d = length-drop at out in length-take-le w (drop at out) (omega arith)
 
--- a number below a length that is known, and back
+-- a number below one of two lengths that are equal
 pub below : (k : ℕ) {m n : ℕ} → m ≡ n → k < m → k < n
 below k e l = omega arith

@@ -173,8 +173,10 @@ fn samples_from<'a>(
 }
 
 // A stretch is a run of entries of a row whose pairs lie inside their lines.
-// Its loop asks neither for the direction nor for a line's end, and so becomes
-// vector code: it is small enough to be compiled for each `step` by itself.
+// Its loop asks neither for the direction nor for a line's end, so that it can
+// become vector code. It takes a slice for each sample and not one slice and
+// places in it, which keeps it small enough to be compiled for each `step` by
+// itself; else the samples would be gathered one by one.
 fn average_stretch(first: &[i32], second: &[i32], step: usize, out: &mut [i32])
     requires { ⌜ Reach (length (now out)) step (now first) × Reach (length (now out)) step (now second) ⌝ }
     ensures { λ _. ⌜ now (out .exit) ≡ table (averageOver (now (first .entry)) (now (second .entry)) step) 0 (length (now (out .entry))) ⌝ }
@@ -305,9 +307,10 @@ fn residuals_along(lines: usize, size: usize, xs: &[i32], out: &mut [i32])
     }
 }
 
-// The rows of pairs, then the row of tails. It is left out of the loop, not
-// asked for in it: the compiler tests once before the loop that the rows it
-// reads and the rows it writes lie apart, and takes every turn to read two.
+// The rows of pairs, then the row of tails, which the loop is not to ask for:
+// before the first turn the compiler has it tested once that all that is read
+// lies apart from all that is written, and takes every turn to read two rows,
+// one past the samples where the last would be a tail.
 fn averages_across(lines: usize, size: usize, xs: &[i32], out: &mut [i32])
     requires { ⌜ (length (now xs) ≡ lines * size) × (length (now out) ≡ lines * averageCount size) ⌝ }
     ensures { λ _. ⌜ now (out .exit) ≡ averagesOf false lines size (now (xs .entry)) ⌝ }

@@ -58,13 +58,13 @@ returns c = search needs
 samples-from-requires : tie.Need-samples-from-requires
 samples-from-requires c κs =
     let a = c .before .args in
-    line-room (a .lines) (a .size) (a .xs .now) (c .before .pre .0) (a .y) 0 (c .before .pre .1) (omega arith)
+    line-room (a .lines) (a .size) (a .xs .now) (c .before .pre .0) (a .y) _ (c .before .pre .1) (omega arith)
 
 samples-from-requires-2 : tie.Need-samples-from-requires-2
 samples-from-requires-2 c κs =
     let start = c .before .before in
     let a = start .args in
-    line-room (a .lines) (a .size) (a .xs .now) (start .pre .0) (a .y) 1 (start .pre .1) (omega arith)
+    line-room (a .lines) (a .size) (a .xs .now) (start .pre .0) (a .y) _ (start .pre .1) (omega arith)
 
 sub-average-stretch : tie.Need-sub-average-stretch
 sub-average-stretch c = search needs
@@ -82,8 +82,8 @@ average-stretch-requires c κs =
     let start = first .before .before in
     let a = start .args in
     rw (first .samples-from .ensures, second .samples-from2 .ensures, lent second) (
-      reach-along (a .lines) (a .size) (a .xs .now) (start .pre .0) (a .y) 0 (a .size / 2) (start .pre .1) (omega arith),
-      reach-along (a .lines) (a .size) (a .xs .now) (start .pre .0) (a .y) 1 (a .size / 2) (start .pre .1) (omega arith),
+      reach-along (a .lines) (a .size) (a .xs .now) (start .pre .0) (a .y) _ (a .size / 2) (start .pre .1) (omega arith),
+      reach-along (a .lines) (a .size) (a .xs .now) (start .pre .0) (a .y) _ (a .size / 2) (start .pre .1) (omega arith),
     )
 
 average-at-requires : tie.Need-average-at-requires

@@ -13,7 +13,7 @@ add-samples-from c = search needs
 samples-from-requires : tie.Need-samples-from-requires
 samples-from-requires c κs =
     let a = c .args in
-    row-begins (a .lines) (a .size) (a .xs .now) (c .pre .0) (a .y + a .y) (omega arith)
+    row-begins (a .lines) (a .size) (a .xs .now) (c .pre .0) _ (omega arith)
 
 add-samples-from-2 : tie.Need-add-samples-from-2
 add-samples-from-2 c = search needs
@@ -24,7 +24,7 @@ add-samples-from-3 c = search needs
 samples-from-requires-2 : tie.Need-samples-from-requires-2
 samples-from-requires-2 c κs =
     let a = c .before .args in
-    row-begins (a .lines) (a .size) (a .xs .now) (c .before .pre .0) (a .y + a .y + 1) (omega arith)
+    row-begins (a .lines) (a .size) (a .xs .now) (c .before .pre .0) _ (omega arith)
 
 average-stretch-requires : tie.Need-average-stretch-requires
 average-stretch-requires c κs =
@@ -33,8 +33,8 @@ average-stretch-requires c κs =
     let start = first .before in
     let a = start .args in
     rw (first .samples-from .ensures, second .samples-from2 .ensures, start .pre .2) (
-      reach-across (a .lines) (a .size) (a .xs .now) (start .pre .0) (a .y + a .y) (omega arith),
-      reach-across (a .lines) (a .size) (a .xs .now) (start .pre .0) (a .y + a .y + 1) (omega arith),
+      reach-across (a .lines) (a .size) (a .xs .now) (start .pre .0) _ (omega arith),
+      reach-across (a .lines) (a .size) (a .xs .now) (start .pre .0) _ (omega arith),
     )
 
 same-length : tie.Need-same-length

@@ -92,31 +92,31 @@ samples-from-requires : tie.Need-samples-from-requires
 samples-from-requires c κs =
     let start = c .before .before in
     let a = start .args in
-    line-room (a .lines) (a .size) (a .xs .now) (start .pre .0) (a .y) 1 (start .pre .1) (omega arith)
+    line-room (a .lines) (a .size) (a .xs .now) (start .pre .0) (a .y) _ (start .pre .1) (omega arith)
 
 samples-from-requires-2 : tie.Need-samples-from-requires-2
 samples-from-requires-2 c κs =
     let start = c .before .before .before in
     let a = start .args in
-    line-room (a .lines) (a .size) (a .xs .now) (start .pre .0) (a .y) 2 (start .pre .1) (omega arith)
+    line-room (a .lines) (a .size) (a .xs .now) (start .pre .0) (a .y) _ (start .pre .1) (omega arith)
 
 samples-from-requires-3 : tie.Need-samples-from-requires-3
 samples-from-requires-3 c κs =
     let start = c .before .before .before .before in
     let a = start .args in
-    line-room (a .lines) (a .size) (a .xs .now) (start .pre .0) (a .y) 3 (start .pre .1) (omega arith)
+    line-room (a .lines) (a .size) (a .xs .now) (start .pre .0) (a .y) _ (start .pre .1) (omega arith)
 
 samples-from-requires-4 : tie.Need-samples-from-requires-4
 samples-from-requires-4 c κs =
     let start = c .before .before .before .before .before in
     let a = start .args in
-    line-room (a .lines) (a .size) (a .xs .now) (start .pre .0) (a .y) 4 (start .pre .1) (omega arith)
+    line-room (a .lines) (a .size) (a .xs .now) (start .pre .0) (a .y) _ (start .pre .1) (omega arith)
 
 samples-from-requires-5 : tie.Need-samples-from-requires-5
 samples-from-requires-5 c κs =
     let start = c .before .before .before .before .before .before in
     let a = start .args in
-    line-room (a .lines) (a .size) (a .xs .now) (start .pre .0) (a .y) 5 (start .pre .1) (omega arith)
+    line-room (a .lines) (a .size) (a .xs .now) (start .pre .0) (a .y) _ (start .pre .1) (omega arith)
 
 sub-residual-stretch : tie.Need-sub-residual-stretch
 sub-residual-stretch c = search needs
@@ -140,11 +140,11 @@ residual-stretch-requires c κs =
     let start = p1 .before .before .before in
     let a = start .args in
     rw (p1 .samples-from .ensures, p2 .samples-from2 .ensures, p3 .samples-from3 .ensures, p4 .samples-from4 .ensures, p5 .samples-from5 .ensures, lent (p1 .before)) (
-      reach-along (a .lines) (a .size) (a .xs .now) (start .pre .0) (a .y) 1 (length (a .out .now) - 1 - 1) (start .pre .1) (omega arith),
-      reach-along (a .lines) (a .size) (a .xs .now) (start .pre .0) (a .y) 2 (length (a .out .now) - 1 - 1) (start .pre .1) (omega arith),
-      reach-along (a .lines) (a .size) (a .xs .now) (start .pre .0) (a .y) 3 (length (a .out .now) - 1 - 1) (start .pre .1) (omega arith),
-      reach-along (a .lines) (a .size) (a .xs .now) (start .pre .0) (a .y) 4 (length (a .out .now) - 1 - 1) (start .pre .1) (omega arith),
-      reach-along (a .lines) (a .size) (a .xs .now) (start .pre .0) (a .y) 5 (length (a .out .now) - 1 - 1) (start .pre .1) (omega arith),
+      reach-along (a .lines) (a .size) (a .xs .now) (start .pre .0) (a .y) _ (length (a .out .now) - 1 - 1) (start .pre .1) (omega arith),
+      reach-along (a .lines) (a .size) (a .xs .now) (start .pre .0) (a .y) _ (length (a .out .now) - 1 - 1) (start .pre .1) (omega arith),
+      reach-along (a .lines) (a .size) (a .xs .now) (start .pre .0) (a .y) _ (length (a .out .now) - 1 - 1) (start .pre .1) (omega arith),
+      reach-along (a .lines) (a .size) (a .xs .now) (start .pre .0) (a .y) _ (length (a .out .now) - 1 - 1) (start .pre .1) (omega arith),
+      reach-along (a .lines) (a .size) (a .xs .now) (start .pre .0) (a .y) _ (length (a .out .now) - 1 - 1) (start .pre .1) (omega arith),
     )
 
 sub-residual-at : tie.Need-sub-residual-at

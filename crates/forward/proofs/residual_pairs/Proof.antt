@@ -16,7 +16,7 @@ sub-samples-from c = search needs
 samples-from-requires : tie.Need-samples-from-requires
 samples-from-requires c κs =
     let a = c .args in
-    row-begins (a .lines) (a .size) (a .xs .now) (c .pre .0) (a .y + a .y - 1) (omega arith)
+    row-begins (a .lines) (a .size) (a .xs .now) (c .pre .0) _ (omega arith)
 
 add-samples-from-2 : tie.Need-add-samples-from-2
 add-samples-from-2 c = search needs
@@ -24,7 +24,7 @@ add-samples-from-2 c = search needs
 samples-from-requires-2 : tie.Need-samples-from-requires-2
 samples-from-requires-2 c κs =
     let a = c .before .args in
-    row-begins (a .lines) (a .size) (a .xs .now) (c .before .pre .0) (a .y + a .y) (omega arith)
+    row-begins (a .lines) (a .size) (a .xs .now) (c .before .pre .0) _ (omega arith)
 
 add-samples-from-3 : tie.Need-add-samples-from-3
 add-samples-from-3 c = search needs
@@ -35,7 +35,7 @@ add-samples-from-4 c = search needs
 samples-from-requires-3 : tie.Need-samples-from-requires-3
 samples-from-requires-3 c κs =
     let a = c .before .before .args in
-    row-begins (a .lines) (a .size) (a .xs .now) (c .before .before .pre .0) (a .y + a .y + 1) (omega arith)
+    row-begins (a .lines) (a .size) (a .xs .now) (c .before .before .pre .0) _ (omega arith)
 
 add-samples-from-5 : tie.Need-add-samples-from-5
 add-samples-from-5 c = search needs
@@ -46,7 +46,7 @@ add-samples-from-6 c = search needs
 samples-from-requires-4 : tie.Need-samples-from-requires-4
 samples-from-requires-4 c κs =
     let a = c .before .before .before .args in
-    row-begins (a .lines) (a .size) (a .xs .now) (c .before .before .before .pre .0) (a .y + a .y + 2) (omega arith)
+    row-begins (a .lines) (a .size) (a .xs .now) (c .before .before .before .pre .0) _ (omega arith)
 
 add-samples-from-7 : tie.Need-add-samples-from-7
 add-samples-from-7 c = search needs
@@ -57,7 +57,7 @@ add-samples-from-8 c = search needs
 samples-from-requires-5 : tie.Need-samples-from-requires-5
 samples-from-requires-5 c κs =
     let a = c .before .before .before .before .args in
-    row-begins (a .lines) (a .size) (a .xs .now) (c .before .before .before .before .pre .0) (a .y + a .y + 3) (omega arith)
+    row-begins (a .lines) (a .size) (a .xs .now) (c .before .before .before .before .pre .0) _ (omega arith)
 
 residual-stretch-requires : tie.Need-residual-stretch-requires
 residual-stretch-requires c κs =
@@ -69,11 +69,11 @@ residual-stretch-requires c κs =
     let start = p1 .before in
     let a = start .args in
     rw (p1 .samples-from .ensures, p2 .samples-from2 .ensures, p3 .samples-from3 .ensures, p4 .samples-from4 .ensures, p5 .samples-from5 .ensures, start .pre .3) (
-      reach-across (a .lines) (a .size) (a .xs .now) (start .pre .0) (a .y + a .y - 1) (omega arith),
-      reach-across (a .lines) (a .size) (a .xs .now) (start .pre .0) (a .y + a .y) (omega arith),
-      reach-across (a .lines) (a .size) (a .xs .now) (start .pre .0) (a .y + a .y + 1) (omega arith),
-      reach-across (a .lines) (a .size) (a .xs .now) (start .pre .0) (a .y + a .y + 2) (omega arith),
-      reach-across (a .lines) (a .size) (a .xs .now) (start .pre .0) (a .y + a .y + 3) (omega arith),
+      reach-across (a .lines) (a .size) (a .xs .now) (start .pre .0) _ (omega arith),
+      reach-across (a .lines) (a .size) (a .xs .now) (start .pre .0) _ (omega arith),
+      reach-across (a .lines) (a .size) (a .xs .now) (start .pre .0) _ (omega arith),
+      reach-across (a .lines) (a .size) (a .xs .now) (start .pre .0) _ (omega arith),
+      reach-across (a .lines) (a .size) (a .xs .now) (start .pre .0) _ (omega arith),
     )
 
 same-length : tie.Need-same-length
