@@ -1,5 +1,5 @@
 -- What the test of the slices (`slicesFit` of specs/Into.antt) says, and the output slice of either answer. Assumes nothing.
-use mathlib.Core.Path.{_≡_, sym, _∙_}
+use mathlib.Core.Path.{_≡_}
 use mathlib.Core.Bool.{Bool, true, false, _&&_, and-eq-true-iff}
 use mathlib.Core.List.{List}
 use Prim.Native.Nat.{ℕ, _*_, _≤_}
@@ -10,30 +10,18 @@ use lib.ListN.{length}
 use Rattle.numbers.specs.Numbers.{maxSide}
 use Rattle.line.specs.Uncut.{table}
 use Rattle.line.specs.Forward as F
-use Rattle.line.specs.Forward.{averageCount, residualCount}
+use Rattle.line.specs.Forward.{averageCount, residualCount, averagesOf, residualsOf}
 use Rattle.forward.specs.Rows.{wide, high, averageEntry, residualEntry}
 use Rattle.forward.specs.Into.{slicesFit, averagesInto, residualsInto}
 use Rattle.forward.proofs.Filled.{area}
 
--- slices that fit, and the rows of the output
-pub record Sized (d : Bool) (lines size m : ℕ) (xs out : List ℤ) (h w : ℕ) : Type 0 where
-  pub samples : length xs ≡ lines * size
-  pub rows : h ≡ high d lines m
-  pub row : w ≡ wide d lines m
-  pub room : length out ≡ h * w
-
-module _ (d : Bool) (lines size m : ℕ) (xs out : List ℤ) where
-  pub sized : (h w : ℕ) → slicesFit lines size m xs out ≡ true → h ≡ high d lines m → w ≡ wide d lines m → Sized d lines size m xs out h w
+module _ (lines size m : ℕ) (xs out : List ℤ) where
+  pub fitted : slicesFit lines size m xs out ≡ true → (length xs ≡ lines * size) × (length out ≡ lines * m)
   unfolding slicesFit
-  sized h w e p q =
+  fitted e =
       let l = and-eq-true-iff (leb lines maxSide && leb size maxSide) (eqb (length xs) (lines * size) && eqb (length out) (lines * m)) .0 e .1 in
       let b = and-eq-true-iff (eqb (length xs) (lines * size)) (eqb (length out) (lines * m)) .0 l in
-      record {
-        samples = eqb-true (length xs) (lines * size) (b .0);
-        rows = p;
-        row = q;
-        room = eqb-true (length out) (lines * m) (b .1) ∙ rw (p, q) (sym (area d lines m));
-      }
+      (eqb-true (length xs) (lines * size) (b .0), eqb-true (length out) (lines * m) (b .1))
 
 -- ---- the output slice afterwards
 module _ (d : Bool) (lines size : ℕ) (xs out : List ℤ) where
@@ -45,15 +33,23 @@ module _ (d : Bool) (lines size : ℕ) (xs out : List ℤ) where
   unfolding residualsInto
   residuals-kept e = rw e
 
-  pub averages-put : (h w : ℕ) → slicesFit lines size (averageCount size) xs out ≡ true → Sized d lines size (averageCount size) xs out h w
-      → table (averageEntry d lines size xs) 0 (h * w) ≡ averagesInto d lines size xs out
-  unfolding averagesInto F.averagesOf averageEntry
-  averages-put h w e s = let a = area d lines (averageCount size) in rw (e, s .rows, s .row, a)
+  pub averages-put : slicesFit lines size (averageCount size) xs out ≡ true → averagesOf d lines size xs ≡ averagesInto d lines size xs out
+  unfolding averagesInto
+  averages-put e = rw e
 
-  pub residuals-put : (h w : ℕ) → slicesFit lines size (residualCount size) xs out ≡ true → Sized d lines size (residualCount size) xs out h w
-      → table (residualEntry d lines size xs) 0 (h * w) ≡ residualsInto d lines size xs out
-  unfolding residualsInto F.residualsOf residualEntry
-  residuals-put h w e s = let a = area d lines (residualCount size) in rw (e, s .rows, s .row, a)
+  pub residuals-put : slicesFit lines size (residualCount size) xs out ≡ true → residualsOf d lines size xs ≡ residualsInto d lines size xs out
+  unfolding residualsInto
+  residuals-put e = rw e
+
+-- the rows one after the other are the averages, or the residuals, of all lines
+module _ (d : Bool) (lines size : ℕ) (xs : List ℤ) where
+  pub averages-rows : table (averageEntry d lines size xs) 0 (high d lines (averageCount size) * wide d lines (averageCount size)) ≡ averagesOf d lines size xs
+  unfolding F.averagesOf averageEntry
+  averages-rows = let a = area d lines (averageCount size) in rw a
+
+  pub residuals-rows : table (residualEntry d lines size xs) 0 (high d lines (residualCount size) * wide d lines (residualCount size)) ≡ residualsOf d lines size xs
+  unfolding F.residualsOf residualEntry
+  residuals-rows = let a = area d lines (residualCount size) in rw a
 
 -- ---- what callers ask: slices of the lengths that the sides ask for
 fits-so : (lines size m : ℕ) (xs out : List ℤ) → lines ≤ maxSide → size ≤ maxSide → length xs ≡ lines * size → length out ≡ lines * m

@@ -1,3 +1,4 @@
 pub mod Entries
 pub mod Filled
 pub mod Fitted
+pub mod Stretches

@@ -2,8 +2,10 @@
 -- crate line, entry by entry). Definitions only.
 use mathlib.Core.Bool.{Bool, cond}
 use mathlib.Core.List.{List}
-use Prim.Native.Nat.{ℕ}
-use lib.IntN.{ℤ}
+use Prim.Native.Nat.{ℕ, _*_, _<_}
+use lib.IntN.{ℤ, pos}
+use lib.ListN.{length, getD}
+use Rattle.pair.specs.Pair.{average, residual}
 use Rattle.line.specs.Uncut.{lineAt, positionAt}
 use Rattle.line.specs.Forward.{averageCount, residualCount, averageAt, residualAt, lineIn}
 
@@ -23,3 +25,20 @@ unfoldable pub residualEntry : Bool → ℕ → ℕ → List ℤ → ℕ → ℤ
 residualEntry horizontal lines size xs j =
     residualAt (lineIn horizontal lines size xs (lineAt horizontal lines (residualCount size) j)) size
     (positionAt horizontal lines (residualCount size) j)
+
+-- ---- a stretch: entries of a row, made of the samples of a slice each, `step` from each other
+-- the slice has n of them
+abbrev pub Reach : ℕ → ℕ → List ℤ → Type 0
+Reach n step xs = (x : ℕ) → x < n → x * step < length xs
+
+abbrev pub sampleOver : List ℤ → ℕ → ℕ → ℤ
+sampleOver xs step x = getD xs (x * step) (pos 0)
+
+unfoldable pub averageOver : List ℤ → List ℤ → ℕ → ℕ → ℤ
+averageOver first second step x = average (sampleOver first step x) (sampleOver second step x)
+
+-- the sample before the pair, the pair, and the pair after it
+unfoldable pub residualOver : List ℤ → List ℤ → List ℤ → List ℤ → List ℤ → ℕ → ℕ → ℤ
+residualOver before first second third fourth step x =
+    residual (sampleOver first step x) (sampleOver second step x) (average (sampleOver third step x) (sampleOver fourth step x))
+    (sampleOver before step x)

@@ -3,13 +3,13 @@
 // is written row by row, and a row is read along the rows of the samples that
 // its entries are made of, in either direction.
 ghost use mathlib.Core.Path.{_≡_};
-ghost use mathlib.Core.Bool.{cond};
+ghost use mathlib.Core.Bool.{true, false, cond};
 ghost use Prim.Native.Nat.{_+_, _*_, _<_, _≤_};
-ghost use lib.ListN.{length};
-ghost use Rattle.line.specs.Uncut.{table};
-ghost use Rattle.line.specs.Forward.{averageCount, residualCount, averageAt, nextAt, prevAt, residualAt, lineIn};
+ghost use lib.ListN.{length, drop};
+ghost use Rattle.line.specs.Uncut.{place, table};
+ghost use Rattle.line.specs.Forward.{averageCount, residualCount, averageAt, nextAt, prevAt, residualAt, lineIn, averagesOf, residualsOf};
 ghost use Rattle.forward.specs.Into.{slicesFit, averagesInto, residualsInto};
-ghost use Rattle.forward.specs.Rows.{wide, high, averageEntry, residualEntry};
+ghost use Rattle.forward.specs.Rows.{wide, high, averageEntry, residualEntry, Reach, averageOver, residualOver};
 use numbers::MAX_SIDE;
 
 fn slices_fit(lines: usize, size: usize, count: usize, xs: &[i32], out: &[i32]) -> bool
@@ -113,8 +113,16 @@ fn residual_at(horizontal: bool, lines: usize, size: usize, xs: &[i32], k: usize
     )
 }
 
-// Row y of the averages: of line y, or of all lines at position y.
-fn average_row(horizontal: bool, lines: usize, size: usize, xs: &[i32], y: usize, out: &mut [i32])
+// Row y of the averages, entry by entry: of line y, or of all lines at
+// position y.
+fn average_singly(
+    horizontal: bool,
+    lines: usize,
+    size: usize,
+    xs: &[i32],
+    y: usize,
+    out: &mut [i32],
+)
     requires { ⌜ (length (now xs) ≡ lines * size) × (y < high horizontal lines (averageCount size)) × (length (now out) ≡ wide horizontal lines (averageCount size)) ⌝ }
     ensures { λ _. ⌜ now (out .exit) ≡ table (averageEntry horizontal lines size (now (xs .entry))) (y * wide horizontal lines (averageCount size)) (wide horizontal lines (averageCount size)) ⌝ }
 {
@@ -125,7 +133,14 @@ fn average_row(horizontal: bool, lines: usize, size: usize, xs: &[i32], y: usize
     }
 }
 
-fn residual_row(horizontal: bool, lines: usize, size: usize, xs: &[i32], y: usize, out: &mut [i32])
+fn residual_singly(
+    horizontal: bool,
+    lines: usize,
+    size: usize,
+    xs: &[i32],
+    y: usize,
+    out: &mut [i32],
+)
     requires { ⌜ (length (now xs) ≡ lines * size) × (y < high horizontal lines (residualCount size)) × (length (now out) ≡ wide horizontal lines (residualCount size)) ⌝ }
     ensures { λ _. ⌜ now (out .exit) ≡ table (residualEntry horizontal lines size (now (xs .entry))) (y * wide horizontal lines (residualCount size)) (wide horizontal lines (residualCount size)) ⌝ }
 {
@@ -136,32 +151,236 @@ fn residual_row(horizontal: bool, lines: usize, size: usize, xs: &[i32], y: usiz
     }
 }
 
+// The samples from sample i of line k on.
+fn samples_from<'a>(
+    horizontal: bool,
+    lines: usize,
+    size: usize,
+    xs: &'a [i32],
+    k: usize,
+    i: usize,
+) -> &'a [i32]
+    requires { ⌜ place horizontal lines size k i ≤ length (now xs) ⌝ }
+    ensures { λ r. ⌜ now r ≡ drop (place horizontal lines size k i) (now (xs .entry)) ⌝ }
+{
+    if horizontal {
+        &xs[k * size + i..]
+    } else {
+        &xs[i * lines + k..]
+    }
+}
+
+// A stretch is a run of entries of a row whose pairs lie inside their lines.
+// Its loop asks neither for the direction nor for a line's end, so that it can
+// become vector code. It takes a slice for each sample and not one slice and
+// places in it, which keeps it small enough to be compiled for each `step` by
+// itself; else the samples would be gathered one by one.
+fn average_stretch(first: &[i32], second: &[i32], step: usize, out: &mut [i32])
+    requires { ⌜ Reach (length (now out)) step (now first) × Reach (length (now out)) step (now second) ⌝ }
+    ensures { λ _. ⌜ now (out .exit) ≡ table (averageOver (now (first .entry)) (now (second .entry)) step) 0 (length (now (out .entry))) ⌝ }
+{
+    for x in 0..out.len() {
+        let i = x * step;
+        let pair = pair::squeeze(first[i], second[i]);
+        let average = pair.average;
+        out[x] = average;
+    }
+}
+
+// The same where a pair stands before each pair and one after it: `before` has
+// the sample before it, `third` and `fourth` the pair after it.
+fn residual_stretch(
+    before: &[i32],
+    first: &[i32],
+    second: &[i32],
+    third: &[i32],
+    fourth: &[i32],
+    step: usize,
+    out: &mut [i32],
+)
+    requires { ⌜ Reach (length (now out)) step (now before) × Reach (length (now out)) step (now first) × Reach (length (now out)) step (now second) × Reach (length (now out)) step (now third) × Reach (length (now out)) step (now fourth) ⌝ }
+    ensures { λ _. ⌜ now (out .exit) ≡ table (residualOver (now (before .entry)) (now (first .entry)) (now (second .entry)) (now (third .entry)) (now (fourth .entry)) step) 0 (length (now (out .entry))) ⌝ }
+{
+    for x in 0..out.len() {
+        let i = x * step;
+        let own = pair::squeeze(first[i], second[i]);
+        let next = pair::squeeze(third[i], fourth[i]);
+        let difference = own.difference;
+        let average = own.average;
+        let after = next.average;
+        out[x] = pair::residual(difference, average, after, before[i]);
+    }
+}
+
+// The averages of line y of a horizontal squeeze, its tail last.
+fn average_line(lines: usize, size: usize, xs: &[i32], y: usize, out: &mut [i32])
+    requires { ⌜ (length (now xs) ≡ lines * size) × (y < lines) × (length (now out) ≡ averageCount size) ⌝ }
+    ensures { λ _. ⌜ now (out .exit) ≡ table (averageEntry true lines size (now (xs .entry))) (y * averageCount size) (averageCount size) ⌝ }
+{
+    let n = size / 2;
+    if n == 0 {
+        average_singly(true, lines, size, xs, y, out);
+        return;
+    }
+    average_stretch(
+        samples_from(true, lines, size, xs, y, 0),
+        samples_from(true, lines, size, xs, y, 1),
+        2,
+        &mut out[0..n],
+    );
+    if n < out.len() {
+        out[n] = average_at(true, lines, size, xs, y, n);
+    }
+}
+
+// Its residuals, of which the first and the last stand at the line's ends.
+fn residual_line(lines: usize, size: usize, xs: &[i32], y: usize, out: &mut [i32])
+    requires { ⌜ (length (now xs) ≡ lines * size) × (y < lines) × (length (now out) ≡ residualCount size) ⌝ }
+    ensures { λ _. ⌜ now (out .exit) ≡ table (residualEntry true lines size (now (xs .entry))) (y * residualCount size) (residualCount size) ⌝ }
+{
+    let n = out.len();
+    if n < 3 {
+        residual_singly(true, lines, size, xs, y, out);
+        return;
+    }
+    out[0] = residual_at(true, lines, size, xs, y, 0);
+    residual_stretch(
+        samples_from(true, lines, size, xs, y, 1),
+        samples_from(true, lines, size, xs, y, 2),
+        samples_from(true, lines, size, xs, y, 3),
+        samples_from(true, lines, size, xs, y, 4),
+        samples_from(true, lines, size, xs, y, 5),
+        2,
+        &mut out[1..n - 1],
+    );
+    out[n - 1] = residual_at(true, lines, size, xs, y, n - 1);
+}
+
+// The averages of pair y of all lines of a vertical squeeze.
+fn average_pairs(lines: usize, size: usize, xs: &[i32], y: usize, out: &mut [i32])
+    requires { ⌜ (length (now xs) ≡ lines * size) × (y + y + 1 < size) × (length (now out) ≡ lines) ⌝ }
+    ensures { λ _. ⌜ now (out .exit) ≡ table (averageEntry false lines size (now (xs .entry))) (y * lines) lines ⌝ }
+{
+    average_stretch(
+        samples_from(false, lines, size, xs, 0, y + y),
+        samples_from(false, lines, size, xs, 0, y + y + 1),
+        1,
+        out,
+    );
+}
+
+// Their residuals, where pair y is neither the first nor the last.
+fn residual_pairs(lines: usize, size: usize, xs: &[i32], y: usize, out: &mut [i32])
+    requires { ⌜ (length (now xs) ≡ lines * size) × (0 < y) × (y + y + 3 < size) × (length (now out) ≡ lines) ⌝ }
+    ensures { λ _. ⌜ now (out .exit) ≡ table (residualEntry false lines size (now (xs .entry))) (y * lines) lines ⌝ }
+{
+    residual_stretch(
+        samples_from(false, lines, size, xs, 0, y + y - 1),
+        samples_from(false, lines, size, xs, 0, y + y),
+        samples_from(false, lines, size, xs, 0, y + y + 1),
+        samples_from(false, lines, size, xs, 0, y + y + 2),
+        samples_from(false, lines, size, xs, 0, y + y + 3),
+        1,
+        out,
+    );
+}
+
+fn averages_along(lines: usize, size: usize, xs: &[i32], out: &mut [i32])
+    requires { ⌜ (length (now xs) ≡ lines * size) × (length (now out) ≡ lines * averageCount size) ⌝ }
+    ensures { λ _. ⌜ now (out .exit) ≡ averagesOf true lines size (now (xs .entry)) ⌝ }
+{
+    let count = size - size / 2;
+    for y in 0..lines {
+        average_line(lines, size, xs, y, &mut out[y * count..y * count + count]);
+    }
+}
+
+fn residuals_along(lines: usize, size: usize, xs: &[i32], out: &mut [i32])
+    requires { ⌜ (length (now xs) ≡ lines * size) × (length (now out) ≡ lines * residualCount size) ⌝ }
+    ensures { λ _. ⌜ now (out .exit) ≡ residualsOf true lines size (now (xs .entry)) ⌝ }
+{
+    let count = size / 2;
+    for y in 0..lines {
+        residual_line(lines, size, xs, y, &mut out[y * count..y * count + count]);
+    }
+}
+
+// The rows of pairs, then the row of tails, which the loop is not to ask for:
+// before the first turn the compiler has it tested once that all that is read
+// lies apart from all that is written, and takes every turn to read two rows,
+// one past the samples where the last would be a tail.
+fn averages_across(lines: usize, size: usize, xs: &[i32], out: &mut [i32])
+    requires { ⌜ (length (now xs) ≡ lines * size) × (length (now out) ≡ lines * averageCount size) ⌝ }
+    ensures { λ _. ⌜ now (out .exit) ≡ averagesOf false lines size (now (xs .entry)) ⌝ }
+{
+    let n = size / 2;
+    for y in 0..n {
+        average_pairs(lines, size, xs, y, &mut out[y * lines..y * lines + lines]);
+    }
+    if n + n < size {
+        average_singly(
+            false,
+            lines,
+            size,
+            xs,
+            n,
+            &mut out[n * lines..n * lines + lines],
+        );
+    }
+}
+
+// The first and the last row stand at the lines' ends, and are left out of the
+// loop for the same reason.
+fn residuals_across(lines: usize, size: usize, xs: &[i32], out: &mut [i32])
+    requires { ⌜ (length (now xs) ≡ lines * size) × (length (now out) ≡ lines * residualCount size) ⌝ }
+    ensures { λ _. ⌜ now (out .exit) ≡ residualsOf false lines size (now (xs .entry)) ⌝ }
+{
+    let n = size / 2;
+    if n == 0 {
+        return;
+    }
+    residual_singly(false, lines, size, xs, 0, &mut out[0..lines]);
+    if n == 1 {
+        return;
+    }
+    let last = n - 1;
+    for y in 1..last {
+        residual_pairs(lines, size, xs, y, &mut out[y * lines..y * lines + lines]);
+    }
+    residual_singly(
+        false,
+        lines,
+        size,
+        xs,
+        last,
+        &mut out[last * lines..last * lines + lines],
+    );
+}
+
 // The averages of so many lines of `size` samples each: along the rows of a
 // slice where the squeeze is horizontal, down its columns where it is vertical.
 pub fn average_lines(horizontal: bool, lines: usize, size: usize, xs: &[i32], out: &mut [i32])
     ensures { λ _. ⌜ now (out .exit) ≡ averagesInto horizontal lines size (now (xs .entry)) (now (out .entry)) ⌝ }
 {
-    let count = size - size / 2;
-    if !slices_fit(lines, size, count, xs, out) {
+    if !slices_fit(lines, size, size - size / 2, xs, out) {
         return;
     }
-    let w = select(horizontal, count, lines);
-    let h = select(horizontal, lines, count);
-    for y in 0..h {
-        average_row(horizontal, lines, size, xs, y, &mut out[y * w..y * w + w]);
+    if horizontal {
+        averages_along(lines, size, xs, out);
+    } else {
+        averages_across(lines, size, xs, out);
     }
 }
 
 pub fn residual_lines(horizontal: bool, lines: usize, size: usize, xs: &[i32], out: &mut [i32])
     ensures { λ _. ⌜ now (out .exit) ≡ residualsInto horizontal lines size (now (xs .entry)) (now (out .entry)) ⌝ }
 {
-    let count = size / 2;
-    if !slices_fit(lines, size, count, xs, out) {
+    if !slices_fit(lines, size, size / 2, xs, out) {
         return;
     }
-    let w = select(horizontal, count, lines);
-    let h = select(horizontal, lines, count);
-    for y in 0..h {
-        residual_row(horizontal, lines, size, xs, y, &mut out[y * w..y * w + w]);
+    if horizontal {
+        residuals_along(lines, size, xs, out);
+    } else {
+        residuals_across(lines, size, xs, out);
     }
 }
