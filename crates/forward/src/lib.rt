@@ -208,7 +208,7 @@ fn residual_stretch(
         let difference = own.difference;
         let average = own.average;
         let after = next.average;
-        out[x] = pair::residual(difference, average, after, before[i]);
+        out[x] = pair::residual_lane(difference, average, after, before[i]);
     }
 }
 

@@ -57,9 +57,15 @@ pub fn squeeze(first: i32, second: i32) -> Averaged
     }
 }
 
-// Without a branch: the writer knows all samples, so nothing waits on a chain
-// of pairs, and its loops run as vectors.
 pub fn residual(difference: i32, avg: i32, next: i32, prev: i32) -> i32
+    ensures { λ r. ⌜ r ≡ P.residualOf difference avg next prev ⌝ }
+{
+    wrapping_sub(difference, smooth_tendency(prev, avg, next))
+}
+
+// The same without a branch, for loops that run as vectors: the writer knows
+// all samples, so nothing waits on a chain of pairs.
+pub fn residual_lane(difference: i32, avg: i32, next: i32, prev: i32) -> i32
     ensures { λ r. ⌜ r ≡ P.residualOf difference avg next prev ⌝ }
 {
     wrapping_sub(difference, smooth_tendency_lane(prev, avg, next))

@@ -67,14 +67,14 @@ shared-slice-copy-out-squeeze-4 c = omega (arith, reach (c .before .before .befo
 squeeze-requires-2 : tie.Need-squeeze-requires-2 Inv-loop μ-loop
 squeeze-requires-2 c κs = search needs
 
-mul-residual : tie.Need-mul-residual Inv-loop μ-loop
-mul-residual c = omega (arith, reach (c .before .before .before .before .before .before .before .before .before) .0)
+mul-residual-lane : tie.Need-mul-residual-lane Inv-loop μ-loop
+mul-residual-lane c = omega (arith, reach (c .before .before .before .before .before .before .before .before .before) .0)
 
-shared-slice-copy-out-residual : tie.Need-shared-slice-copy-out-residual Inv-loop μ-loop
-shared-slice-copy-out-residual c = omega (arith, reach (c .before .before .before .before .before .before .before .before .before) .0)
+shared-slice-copy-out-residual-lane : tie.Need-shared-slice-copy-out-residual-lane Inv-loop μ-loop
+shared-slice-copy-out-residual-lane c = omega (arith, reach (c .before .before .before .before .before .before .before .before .before) .0)
 
-residual-requires : tie.Need-residual-requires Inv-loop μ-loop
-residual-requires c κs = search needs
+residual-lane-requires : tie.Need-residual-lane-requires Inv-loop μ-loop
+residual-lane-requires c κs = search needs
 
 mul-t20 : tie.Need-mul-t20 Inv-loop μ-loop
 mul-t20 c = search needs
@@ -91,7 +91,7 @@ loop-less c = search needs
 loop-again : tie.Need-loop-again Inv-loop μ-loop
 unfolding residualOver P.residual
 loop-again c =
-    let last = c .residual in
+    let last = c .residual-lane in
     let asked = c .before in
     let told = asked .before in
     let next = told .before .before .before in
@@ -100,7 +100,7 @@ loop-again c =
     let a = turn .before .before .args in
     let x = turn .before .loop .x in
     let i = x * a .step in
-    let b0 = back32 (getD (a .before .now) i (pos 0)) (asked .residual-arg .given) in
+    let b0 = back32 (getD (a .before .now) i (pos 0)) (asked .residual-lane-arg .given) in
     let b1 = back32 (getD (a .first .now) i (pos 0)) (own .before .before .squeeze-arg .given) in
     let b2 = back32 (getD (a .second .now) i (pos 0)) (own .before .squeeze-arg2 .given) in
     let b3 = back32 (getD (a .third .now) i (pos 0)) (next .before .before .squeeze-arg3 .given) in
@@ -142,9 +142,9 @@ residual-stretch-spec =
     mul-squeeze-4
     shared-slice-copy-out-squeeze-4
     squeeze-requires-2
-    mul-residual
-    shared-slice-copy-out-residual
-    residual-requires
+    mul-residual-lane
+    shared-slice-copy-out-residual-lane
+    residual-lane-requires
     mul-t20
     slice-set-from-out
     add-x
