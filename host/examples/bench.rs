@@ -92,8 +92,12 @@ fn tile(horizontal: bool, side: usize, picture: &[i32], budget: Duration) -> Tim
     let mut out = vec![7; picture.len()];
     let mut plain_out = vec![7; picture.len()];
     let ours = || squeeze::tile(&sizes, &avg, &residual, &[], &[], &mut out).expect("accepted");
-    let plain =
-        || assert_eq!(model::tile::tile(&plain_sizes, &avg, &residual, &[], &[], &mut plain_out), 0);
+    let plain = || {
+        assert_eq!(
+            model::tile::tile(&plain_sizes, &avg, &residual, &[], &[], &mut plain_out),
+            0
+        )
+    };
     let times = race(picture, ours, plain, budget);
     assert!(out == plain_out && out == picture, "tile: sides differ");
     times

@@ -140,8 +140,14 @@ mod tests {
             ("steps 1\nchannels 0\ncoarse 0\n", "a step is missing"),
             ("steps 0\nchannels 1\n5 5 0\ncoarse 0\n", "three words"),
             ("steps 0\nchannels 1\n5 5 m 0\ncoarse 0\n", "half meta"),
-            ("steps 0\nchannels 1\n5 5 0 0\ncoarse 2\n", "coarse past the count"),
-            ("steps 0\nchannels 1\n5 5 0 0\ncoarse 1\nend\n", "a line too many"),
+            (
+                "steps 0\nchannels 1\n5 5 0 0\ncoarse 2\n",
+                "coarse past the count",
+            ),
+            (
+                "steps 0\nchannels 1\n5 5 0 0\ncoarse 1\nend\n",
+                "a line too many",
+            ),
             ("steps 1\nx in 0 1\nchannels 0\ncoarse 0\n", "no direction"),
         ];
         for (text, why) in cases {

@@ -109,14 +109,12 @@ pub fn listing(record: &[u8]) -> String {
     let mut text = vec![0u8; LISTING_ROOM];
     // SAFETY: as in `rebuild`.
     let length = unsafe {
-        ffi::squeeze_listing(
-            record.as_ptr(),
-            record.len(),
-            text.as_mut_ptr(),
-            text.len(),
-        )
+        ffi::squeeze_listing(record.as_ptr(), record.len(), text.as_mut_ptr(), text.len())
     };
-    assert!(0 < length && length <= LISTING_ROOM, "listing of {length} bytes");
+    assert!(
+        0 < length && length <= LISTING_ROOM,
+        "listing of {length} bytes"
+    );
     text.truncate(length);
     String::from_utf8(text).expect("a listing is plain text")
 }

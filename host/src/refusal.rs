@@ -81,9 +81,7 @@ impl Refusal {
             Refusal::MixedKinds => "a step begins on a meta channel and ends on another kind",
             Refusal::MetaNotInPlace => "a step on meta channels must be in place",
             Refusal::EmptySide => "a step on a channel with a side of 0",
-            Refusal::PlanTooDeep => {
-                "a step would leave more than 256 channels or a shift above 30"
-            }
+            Refusal::PlanTooDeep => "a step would leave more than 256 channels or a shift above 30",
             Refusal::OnlyMeta => "the default plan needs a channel that is not meta",
             Refusal::SliceLength => "a slice doesn't have its length",
             Refusal::TileSizes => "sizes or neighbour lines of a tile don't fit",

@@ -33,17 +33,34 @@ impl TileSizes {
         let (avg, residual) = if horizontal {
             let rest = width / 2;
             (
-                Size { width: width - rest, height },
-                Size { width: rest, height },
+                Size {
+                    width: width - rest,
+                    height,
+                },
+                Size {
+                    width: rest,
+                    height,
+                },
             )
         } else {
             let rest = height / 2;
             (
-                Size { width, height: height - rest },
-                Size { width, height: rest },
+                Size {
+                    width,
+                    height: height - rest,
+                },
+                Size {
+                    width,
+                    height: rest,
+                },
             )
         };
-        TileSizes { horizontal, avg, residual, output }
+        TileSizes {
+            horizontal,
+            avg,
+            residual,
+            output,
+        }
     }
 }
 
@@ -174,5 +191,10 @@ pub fn grid_rect(query: &GridQuery) -> Result<Rect, Refusal> {
         )
     })?;
     let [x, y, width, height] = rect;
-    Ok(Rect { x, y, width, height })
+    Ok(Rect {
+        x,
+        y,
+        width,
+        height,
+    })
 }

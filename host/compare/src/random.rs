@@ -47,9 +47,7 @@ impl Random {
         ];
         match self.below(4) {
             0 => self.below(511) as i32 - 255,
-            1 => self
-                .pick(&CORNERS)
-                .wrapping_add(self.below(7) as i32 - 3),
+            1 => self.pick(&CORNERS).wrapping_add(self.below(7) as i32 - 3),
             _ => self.bits() as i32,
         }
     }

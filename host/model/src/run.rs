@@ -57,7 +57,9 @@ fn region(list: &[Channel], step: &Step) -> std::ops::Range<usize> {
 
 /// Where, inside a step's region, residuals begin in the list after it.
 fn residuals_start(list: &[Channel], step: &Step) -> usize {
-    let averages = list[step.range()].iter().map(|c| c.halves(step.horizontal).0.samples());
+    let averages = list[step.range()]
+        .iter()
+        .map(|c| c.halves(step.horizontal).0.samples());
     let others = &list[step.range().end..step.residuals_at(list.len())];
     averages.sum::<usize>() + total(others)
 }
