@@ -36,6 +36,40 @@ pub fn number<T>(answer: &Result<T, squeeze::Refusal>) -> u32 {
     }
 }
 
+/// What a comparison gave; panics with the difference if there is one.
+pub fn must<T>(compared: Result<T, String>) -> T {
+    match compared {
+        Ok(value) => value,
+        Err(text) => panic!("{text}"),
+    }
+}
+
+/// How often each answer was met.
+#[derive(Clone, Copy, Debug, Default, PartialEq, Eq)]
+pub struct Tally(pub [u64; 15]);
+
+impl Tally {
+    /// Counts an answer.
+    pub fn add(&mut self, answer: u32) {
+        self.0[answer as usize] += 1;
+    }
+
+    /// All answers counted.
+    pub fn total(&self) -> u64 {
+        self.0.iter().sum()
+    }
+
+    /// The answers met, smallest first.
+    pub fn met(&self) -> Vec<usize> {
+        (0..15).filter(|&answer| self.0[answer] > 0).collect()
+    }
+
+    /// Prints how many cases a test compared (seen with `--nocapture`).
+    pub fn print(&self, test: &str) {
+        println!("{test}: {} cases, answers {:?}", self.total(), self.0);
+    }
+}
+
 /// Nothing if `same`, else the text.
 fn expect(same: bool, text: impl FnOnce() -> String) -> Result<(), String> {
     if same {

@@ -1,8 +1,9 @@
 //! Plan run and writer, compared.
 
 use crate::guard::Lent;
-use crate::{expect, number, Compared, Outcome};
-use squeeze_model::run;
+use crate::random::Random;
+use crate::{expect, lists, number, Compared, Outcome};
+use squeeze_model::{list, record, refusal, run};
 
 /// One call of the plan run or of the writer.
 #[derive(Clone, Copy)]
@@ -105,4 +106,31 @@ fn run_both(back: bool, record: &[u8], input: &[i32]) -> Compared {
         work: &work,
     }
     .compare()
+}
+
+/// Listing, plan run and writer on one record. An accepted record of up to
+/// `largest` samples makes both round trips with samples from `random`; any
+/// other is run with slices of a few samples. Gives the listing's answer.
+pub fn every_function(random: &mut Random, record: &[u8], largest: usize) -> Result<u32, String> {
+    let answer = lists::compare(record)?;
+    let samples = match record::judge(record) {
+        Ok(plan) => list::total(plan.layout()),
+        Err(_) => 3,
+    };
+    if answer == 0 && samples <= largest {
+        round_trips(record, &random.samples(samples))?;
+        return Ok(0);
+    }
+    let length = samples.min(largest);
+    for back in [false, true] {
+        let outcome = run_both(back, record, &random.samples(length))?;
+        let expected = if answer == 0 { refusal::LENGTH } else { answer };
+        expect(outcome.answer == expected, || {
+            format!(
+                "listing {answer}, run {}; record {record:02x?}",
+                outcome.answer
+            )
+        })?;
+    }
+    Ok(answer)
 }

@@ -116,12 +116,11 @@ pub fn check_step(list: &[Channel], step: &Step) -> Result<(), u32> {
 pub fn take_step(list: &[Channel], step: &Step) -> Result<Vec<Channel>, u32> {
     check_step(list, step)?;
     let mut next = list.to_vec();
-    let mut at = step.residuals_at(list.len());
-    for k in step.range() {
+    let at = step.residuals_at(list.len());
+    for (n, k) in step.range().enumerate() {
         let (average, residual) = list[k].halves(step.horizontal);
         next[k] = average;
-        next.insert(at, residual);
-        at += 1;
+        next.insert(at + n, residual);
     }
     Ok(next)
 }
