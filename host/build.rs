@@ -11,6 +11,8 @@ fn main() {
         Some(dir) => ready_archive(PathBuf::from(dir)),
         None => make_archive(),
     };
+    // For the test that links the archive to a C program.
+    println!("cargo:rustc-env=SQUEEZE_ARCHIVE_USED={}", dir.display());
     println!("cargo:rustc-link-search=native={}", dir.display());
     println!("cargo:rustc-link-lib=static=squeeze");
 }
