@@ -11,7 +11,6 @@ use std::hint::black_box;
 use std::time::{Duration, Instant};
 
 /// Nanoseconds per sample: core, plain Rust, copy.
-#[derive(Clone, Copy)]
 struct Times {
     ours: f64,
     plain: f64,
@@ -19,6 +18,7 @@ struct Times {
 }
 
 const SIDES: [usize; 4] = [64, 1024, 2048, 4096];
+const NAMES: [&str; 4] = ["tile, rows", "tile, columns", "rebuild", "write"];
 
 fn main() {
     let seconds = match std::env::args().nth(1).map(|word| word.parse::<f64>()) {
@@ -31,9 +31,11 @@ fn main() {
     };
     let budget = Duration::from_secs_f64(seconds);
     println!(
-        "best time of the repetitions within {seconds} s per row, the three in turns; one thread;"
+        "best time within {seconds} s per row; core, plain Rust and copy in turns, one thread"
     );
-    println!("buffers warm: each is touched before timing and used again (256 MB at 4096 x 4096 don't fit a cache)");
+    println!(
+        "buffers warm: all touched before; at 4096 x 4096 (64 MB a slice) no cache holds them"
+    );
     println!();
     println!(
         "{:<16} {:>11} {:>9} {:>9} {:>9} {:>9} {:>9}",
@@ -46,12 +48,16 @@ fn main() {
 /// The four rows of one picture size.
 fn measure(side: usize, budget: Duration) -> [Times; 4] {
     let picture = photograph(side);
-    [
-        print_row("tile, rows", side, tile(true, side, &picture, budget)),
-        print_row("tile, columns", side, tile(false, side, &picture, budget)),
-        print_row("rebuild", side, rebuild(side, &picture, budget)),
-        print_row("write", side, write(side, &picture, budget)),
-    ]
+    let measured = [
+        tile(true, side, &picture, budget),
+        tile(false, side, &picture, budget),
+        rebuild(side, &picture, budget),
+        write(side, &picture, budget),
+    ];
+    for (name, times) in NAMES.iter().zip(&measured) {
+        print_row(name, side, times);
+    }
+    measured
 }
 
 /// Eight-bit samples: slow waves, an edge now and then, and some noise.
@@ -76,6 +82,12 @@ fn tile(horizontal: bool, side: usize, picture: &[i32], budget: Duration) -> Tim
         height: side,
     };
     let sizes = TileSizes::of_output(horizontal, size);
+    let plain_sizes = model::tile::Sizes {
+        horizontal,
+        avg: (sizes.avg.width, sizes.avg.height),
+        residual: (sizes.residual.width, sizes.residual.height),
+        output: (side, side),
+    };
     let half = picture.len() / 2;
     let (mut avg, mut residual) = (vec![0; half], vec![0; half]);
     if horizontal {
@@ -83,110 +95,133 @@ fn tile(horizontal: bool, side: usize, picture: &[i32], budget: Duration) -> Tim
     } else {
         model::forward::columns_forward(side, side, picture, &mut avg, &mut residual);
     }
-    let plain_sizes = model::tile::Sizes {
-        horizontal,
-        avg: (sizes.avg.width, sizes.avg.height),
-        residual: (sizes.residual.width, sizes.residual.height),
-        output: (side, side),
+    let ours = |out: &mut [i32], _: &mut [i32]| {
+        squeeze::tile(&sizes, &avg, &residual, &[], &[], out).expect("accepted");
     };
-    let mut out = vec![7; picture.len()];
-    let mut plain_out = vec![7; picture.len()];
-    let ours = || squeeze::tile(&sizes, &avg, &residual, &[], &[], &mut out).expect("accepted");
-    let plain = || {
-        assert_eq!(
-            model::tile::tile(&plain_sizes, &avg, &residual, &[], &[], &mut plain_out),
-            0
-        )
+    let plain = |out: &mut [i32], _: &mut [i32]| {
+        let answer = model::tile::tile(&plain_sizes, &avg, &residual, &[], &[], out);
+        assert_eq!(answer, 0);
     };
-    let times = race(picture, ours, plain, budget);
-    assert!(out == plain_out && out == picture, "tile: sides differ");
-    times
+    race(picture, picture, ours, plain, budget)
 }
 
 fn rebuild(side: usize, picture: &[i32], budget: Duration) -> Times {
     let record = Record::new().channel(side as u16, side as u16);
-    let pyramid = squeeze::write_pyramid(record.bytes(), picture).expect("accepted");
-    let (mut out, mut work) = (vec![7; picture.len()], vec![7; picture.len()]);
-    let (mut plain_out, mut plain_work) = (out.clone(), work.clone());
-    let ours =
-        || squeeze::rebuild(record.bytes(), &pyramid, &mut out, &mut work).expect("accepted");
-    let plain = || {
-        let answer = model::run::rebuild(record.bytes(), &pyramid, &mut plain_out, &mut plain_work);
-        assert_eq!(answer, 0);
+    let record = record.bytes();
+    let pyramid = squeeze::write_pyramid(record, picture).expect("accepted");
+    let ours = |out: &mut [i32], work: &mut [i32]| {
+        squeeze::rebuild(record, &pyramid, out, work).expect("accepted");
     };
-    let times = race(picture, ours, plain, budget);
-    assert!(out == plain_out && out == picture, "rebuild: sides differ");
-    times
+    let plain = |out: &mut [i32], work: &mut [i32]| {
+        assert_eq!(model::run::rebuild(record, &pyramid, out, work), 0);
+    };
+    race(picture, picture, ours, plain, budget)
 }
 
 fn write(side: usize, picture: &[i32], budget: Duration) -> Times {
     let record = Record::new().channel(side as u16, side as u16);
-    let (mut out, mut work) = (vec![7; picture.len()], vec![7; picture.len()]);
-    let (mut plain_out, mut plain_work) = (out.clone(), work.clone());
-    let ours = || squeeze::write(record.bytes(), picture, &mut out, &mut work).expect("accepted");
-    let plain = || {
-        let answer = model::run::write(record.bytes(), picture, &mut plain_out, &mut plain_work);
-        assert_eq!(answer, 0);
+    let record = record.bytes();
+    let pyramid = squeeze::write_pyramid(record, picture).expect("accepted");
+    let ours = |out: &mut [i32], work: &mut [i32]| {
+        squeeze::write(record, picture, out, work).expect("accepted");
     };
-    let times = race(picture, ours, plain, budget);
-    assert!(out == plain_out, "write: sides differ");
-    times
+    let plain = |out: &mut [i32], work: &mut [i32]| {
+        assert_eq!(model::run::write(record, picture, out, work), 0);
+    };
+    race(picture, &pyramid, ours, plain, budget)
 }
 
-/// Best time of each, taken in turns; once untimed before.
+/// Best time of each, taken in turns, after one untimed call of each whose
+/// output must be `expected`.
 fn race(
     picture: &[i32],
-    mut ours: impl FnMut(),
-    mut plain: impl FnMut(),
+    expected: &[i32],
+    ours: impl Fn(&mut [i32], &mut [i32]),
+    plain: impl Fn(&mut [i32], &mut [i32]),
     budget: Duration,
 ) -> Times {
-    let mut target = vec![7; picture.len()];
-    let mut copy = || {
-        target.copy_from_slice(black_box(picture));
-        black_box(&mut target);
-    };
-    ours();
-    plain();
-    copy();
+    let number = picture.len();
+    let [mut out, mut work] = [7, 8].map(|sample| vec![sample; number]);
+    let [mut plain_out, mut plain_work] = [9, 10].map(|sample| vec![sample; number]);
+    let mut target = vec![11; number];
+    ours(&mut out, &mut work);
+    plain(&mut plain_out, &mut plain_work);
+    assert!(out == expected, "the core's output is another");
+    assert!(plain_out == expected, "plain Rust's output is another");
+    target.copy_from_slice(picture);
     // Several calls make one measurement where a call is short.
-    let calls = (1usize << 18).div_ceil(picture.len());
+    let calls = (1usize << 18).div_ceil(number);
     let mut best = [f64::INFINITY; 3];
     let start = Instant::now();
     let mut rounds = 0;
     while rounds < 3 || start.elapsed() < budget {
-        best[0] = best[0].min(time(calls, &mut ours));
-        best[1] = best[1].min(time(calls, &mut plain));
-        best[2] = best[2].min(time(calls, &mut copy));
+        best[0] = best[0].min(time(calls, || ours(&mut out, &mut work)));
+        best[1] = best[1].min(time(calls, || plain(&mut plain_out, &mut plain_work)));
+        best[2] = best[2].min(time(calls, || {
+            target.copy_from_slice(black_box(picture));
+            black_box(&mut target);
+        }));
         rounds += 1;
     }
-    let [ours, plain, copy] = best.map(|seconds| seconds * 1e9 / (calls * picture.len()) as f64);
+    let [ours, plain, copy] = best.map(|seconds| seconds * 1e9 / (calls * number) as f64);
     Times { ours, plain, copy }
 }
 
-fn time(calls: usize, run: &mut impl FnMut()) -> f64 {
-    let start = Instant::now();
+fn time(calls: usize, mut run: impl FnMut()) -> f64 {
+    let start = now();
     for _ in 0..calls {
         run();
     }
-    start.elapsed().as_secs_f64()
+    now() - start
 }
 
-fn print_row(name: &str, side: usize, times: Times) -> Times {
-    let Times { ours, plain, copy } = times;
+#[cfg(all(target_os = "linux", target_pointer_width = "64"))]
+const CLOCK: &str = "the thread's processor time";
+
+/// Seconds that this thread has run: other programs on the machine don't count,
+/// but they share its caches.
+#[cfg(all(target_os = "linux", target_pointer_width = "64"))]
+fn now() -> f64 {
+    extern "C" {
+        fn clock_gettime(clock: i32, time: *mut [i64; 2]) -> i32;
+    }
+    const THREAD: i32 = 3;
+    let mut time = [0; 2];
+    // SAFETY: on such machines a timespec is two i64, and the array is one.
+    assert_eq!(unsafe { clock_gettime(THREAD, &mut time) }, 0);
+    time[0] as f64 + time[1] as f64 * 1e-9
+}
+
+#[cfg(not(all(target_os = "linux", target_pointer_width = "64")))]
+const CLOCK: &str = "time on the wall clock";
+
+#[cfg(not(all(target_os = "linux", target_pointer_width = "64")))]
+fn now() -> f64 {
+    use std::sync::OnceLock;
+    static START: OnceLock<Instant> = OnceLock::new();
+    START.get_or_init(Instant::now).elapsed().as_secs_f64()
+}
+
+fn print_row(name: &str, side: usize, times: &Times) {
+    let Times { ours, plain, copy } = *times;
     println!(
         "{name:<16} {:>11} {:>9.2} {:>9.2} {ours:>9.3} {plain:>9.3} {copy:>9.3}",
         format!("{side} x {side}"),
         ours / plain,
         ours / copy,
     );
-    times
 }
 
 fn print_ratios(rows: &[[Times; 4]]) {
-    let [_, million, _, large] = rows else {
+    let [small, million, _, large] = rows else {
         unreachable!("one row per side")
     };
     println!();
+    println!("time per call at 64 x 64, in microseconds:");
+    for (name, times) in NAMES.iter().zip(small) {
+        let [ours, plain, copy] = [times.ours, times.plain, times.copy].map(|ns| ns * 4.096);
+        println!("  {name}: ours {ours:.2}, plain {plain:.2}, copy {copy:.2}");
+    }
     println!("time per sample at 4096 x 4096 over that at 1024 x 1024:");
     for (name, k) in [("rebuild", 2), ("write", 3)] {
         let ours = large[k].ours / million[k].ours;
