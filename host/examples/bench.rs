@@ -30,9 +30,8 @@ fn main() {
         }
     };
     let budget = Duration::from_secs_f64(seconds);
-    println!(
-        "best time within {seconds} s per row; core, plain Rust and copy in turns, one thread"
-    );
+    println!("best call within {seconds} s per row; core, plain Rust and copy in turns");
+    println!("in nanoseconds per sample, {CLOCK}");
     println!(
         "buffers warm: all touched before; at 4096 x 4096 (64 MB a slice) no cache holds them"
     );
