@@ -124,7 +124,7 @@ fn tile(random: &mut Random) -> Result<u32, String> {
     Ok(tile.compare()?.answer)
 }
 
-/// Sizes that fit an output rectangle.
+/// Sizes that mostly fit an output rectangle.
 fn tile_sizes(random: &mut Random, horizontal: bool) -> [(usize, usize); 3] {
     let side = |random: &mut Random| match random.below(8) {
         0 => 16 + random.below(40),
@@ -140,10 +140,13 @@ fn tile_sizes(random: &mut Random, horizontal: bool) -> [(usize, usize); 3] {
         ]),
         _ => (side(random), side(random)),
     };
+    // Now and then some residuals too few, and as many averages too many.
+    let moved = random.pick(&[0, 0, 0, 0, 0, 0, 0, 1, 2]);
+    let rest = |side: usize| (side / 2).saturating_sub(moved);
     if horizontal {
-        [(w - w / 2, h), (w / 2, h), (w, h)]
+        [(w - rest(w), h), (rest(w), h), (w, h)]
     } else {
-        [(w, h - h / 2), (w, h / 2), (w, h)]
+        [(w, h - rest(h)), (w, rest(h)), (w, h)]
     }
 }
 
