@@ -170,58 +170,26 @@ fn ends_of_ranges() {
 }
 
 #[test]
+#[rustfmt::skip]
 fn sample_totals() {
     // Records around 16,777,216 samples, with slices of a few samples.
-    let exact = [
-        (Record::new().channel(4096, 4096), 0, "one channel"),
-        (
-            Record::new().channel(65_535, 256).channel(256, 1),
-            0,
-            "two channels",
-        ),
-        (
-            Record::new().meta_channel(4096, 2048).channel(2048, 4096),
-            0,
-            "meta counts too",
-        ),
-        (
-            Record::new().channel(65_535, 256).channel(257, 1),
-            5,
-            "one above",
-        ),
-        (
-            Record::new().channel(4096, 4096).channel(1, 1),
-            5,
-            "one above",
-        ),
-        (
-            Record::new()
-                .channel(4096, 4096)
-                .channel(1, 0)
-                .step(step(true, true, 0, 1)),
-            0,
-            "an empty channel adds nothing",
-        ),
-        (
-            Record::new().channel(65_535, 65_535),
-            5,
-            "the largest channel",
-        ),
-        (
-            (0..256).fold(Record::new(), |r, _| r.channel(65_535, 65_535)),
-            5,
-            "the largest list",
-        ),
-        (
-            (0..256)
-                .fold(Record::new(), |r, _| r.channel(256, 256))
-                .step(step(true, true, 0, 0)),
-            6,
-            "256 channels, exact",
-        ),
+    let many = |side| (0..256).fold(Record::new(), |r, _| r.channel(side, side));
+    let plain = |w, h| Record::new().channel(w, h);
+    let first = step(true, true, 0, 1);
+    let cases = [
+        (plain(4096, 4096), 0, "one channel, exact"),
+        (plain(65_535, 256).channel(256, 1), 0, "two channels, exact"),
+        (Record::new().meta_channel(4096, 2048).channel(2048, 4096), 0, "meta counts too"),
+        (Record::new().meta_channel(4096, 2048).channel(2049, 4096), 5, "meta counts too"),
+        (plain(65_535, 256).channel(257, 1), 5, "one above"),
+        (plain(4096, 4096).channel(1, 1), 5, "one above"),
+        (plain(4096, 4096).channel(1, 0).step(first), 0, "an empty channel adds nothing"),
+        (plain(65_535, 65_535), 5, "the largest channel"),
+        (many(65_535), 5, "the largest list"),
+        (many(256).step(step(true, true, 0, 0)), 6, "256 channels, exact"),
     ];
     let mut random = Random::new(58);
-    for (record, expected, why) in exact {
+    for (record, expected, why) in cases {
         let answer = must(every_function(&mut random, record.bytes(), 100));
         assert_eq!(answer, expected, "{why}");
     }

@@ -209,15 +209,20 @@ fn only_meta(random: &mut Random) -> Vec<u8> {
     steps(random, record, channels, number)
 }
 
-/// Fields in any order, with sound and unsound bodies.
+/// Channels and steps in any order, some of them unsound.
 fn mixed_form(random: &mut Random) -> Vec<u8> {
     let mut bytes = Vec::new();
-    for _ in 0..random.below(6) {
-        let tag = random.pick(&[1, 1, 1, 2, 2, 0, 3]);
-        let length = random.pick(&[6, 6, 5, 5, 0, 4, 7]);
+    for _ in 0..1 + random.below(5) {
+        let (mut tag, mut length) = random.pick(&[(1, 6), (1, 6), (2, 5)]);
+        if random.once_in(8) {
+            tag = random.pick(&[0, 1, 2, 3]);
+            length = random.pick(&[0, 4, 5, 6, 7]);
+        }
         bytes.extend_from_slice(&[tag, length, 0]);
+        let odd = random.once_in(3);
         for _ in 0..length {
-            bytes.push(random.pick(&[0, 0, 0, 1, 2, 3, 4, 9, 30, 31, 255]));
+            let any = random.pick(&[0, 1, 2, 3, 4, 9, 30, 31, 255]);
+            bytes.push(if odd { any } else { random.pick(&[0, 0, 1]) });
         }
     }
     bytes
