@@ -37,3 +37,20 @@ impl<T: Copy + PartialEq> Lent<T> {
         guards.all(|&g| g == self.guard) && self.slice() == contents
     }
 }
+
+#[cfg(test)]
+mod tests {
+    use super::*;
+
+    #[test]
+    fn each_element_is_watched() {
+        let lent = || Lent::new(&[1, 2, 3], 9);
+        assert!(lent().holds(&[1, 2, 3]));
+        assert!(!lent().holds(&[1, 2]));
+        for k in 0..2 * WIDTH + 3 {
+            let mut changed = lent();
+            changed.buffer[k] += 1;
+            assert!(!changed.holds(&[1, 2, 3]), "element {k}");
+        }
+    }
+}
