@@ -2,7 +2,8 @@
 
 use crate::guard::Lent;
 use crate::{expect, raw};
-use squeeze_model::list::coarse_count;
+use squeeze_model::list::{coarse_count, Channel, Step};
+use squeeze_model::plan::Plan;
 use squeeze_model::{listing, record};
 
 /// The listing of a record with room for 8,192 bytes, and its layout. Gives the
@@ -17,31 +18,37 @@ pub fn compare(bytes: &[u8]) -> Result<u32, String> {
     compare_layout(bytes)
 }
 
-/// The parsed listing against the model's list.
+/// The parsed listing against the model's plan.
 fn compare_layout(bytes: &[u8]) -> Result<u32, String> {
     let (ours, model) = (squeeze::layout(bytes), record::judge(bytes));
     let same = match (&ours, &model) {
+        (Ok(layout), Ok(plan)) => *layout == as_layout(plan),
         (Err(refusal), Err(number)) => refusal.number() == *number,
-        (Ok(layout), Ok(plan)) => {
-            let step = |s: &squeeze::Step| (s.horizontal, s.in_place, s.first, s.number);
-            let channel = |c: &squeeze::Channel| (c.width, c.height, c.shifts);
-            let (steps, list) = (&plan.steps, plan.layout());
-            layout.coarse == coarse_count(list)
-                && layout.steps.iter().map(step).eq(steps
-                    .iter()
-                    .map(|s| (s.horizontal, s.in_place, s.first, s.number)))
-                && layout
-                    .channels
-                    .iter()
-                    .map(channel)
-                    .eq(list.iter().map(|c| (c.width, c.height, c.shifts)))
-        }
         _ => false,
     };
     expect(same, || {
         format!("layout: core {ours:?}, model {model:?}; record {bytes:02x?}")
     })?;
     Ok(model.err().unwrap_or(0))
+}
+
+fn as_layout(plan: &Plan) -> squeeze::Layout {
+    let step = |s: &Step| squeeze::Step {
+        horizontal: s.horizontal,
+        in_place: s.in_place,
+        first: s.first,
+        number: s.number,
+    };
+    let channel = |c: &Channel| squeeze::Channel {
+        width: c.width,
+        height: c.height,
+        shifts: c.shifts,
+    };
+    squeeze::Layout {
+        steps: plan.steps.iter().map(step).collect(),
+        channels: plan.layout().iter().map(channel).collect(),
+        coarse: coarse_count(plan.layout()),
+    }
 }
 
 /// The C function with `room` bytes for the text.
