@@ -25,12 +25,26 @@ fn row_forward(row: &[i32], avg: &mut [i32], res: &mut [i32]) {
     if let [last] = tail {
         avg[pairs.len()] = *last;
     }
-    let end = avg[avg.len() - 1];
-    let nexts = avg[1..].iter().copied().chain([end]);
-    let mut prev = avg[0];
-    for (((r, pair), &a), c) in res.iter_mut().zip(pairs).zip(avg.iter()).zip(nexts) {
-        *r = residual(prev, a, c, pair[0], pair[1]);
-        prev = pair[1];
+    let n = pairs.len();
+    let Some(end) = n.checked_sub(1) else { return };
+    let prev = if n > 1 { pairs[n - 2][1] } else { avg[0] };
+    let next = avg[avg.len() - 1];
+    res[end] = residual(prev, avg[end], next, pairs[end][0], pairs[end][1]);
+    if n > 1 {
+        res[0] = residual(avg[0], avg[0], avg[1], pairs[0][0], pairs[0][1]);
+        inner_residuals(pairs, &avg[1..], &mut res[1..end]);
+    }
+}
+
+/// The residuals of all pairs but the first and the last; `avg` begins with the
+/// second pair's.
+fn inner_residuals(pairs: &[[i32; 2]], avg: &[i32], res: &mut [i32]) {
+    let n = res.len();
+    let (before, pairs) = (&pairs[..n], &pairs[1..n + 1]);
+    let (next, avg) = (&avg[1..n + 1], &avg[..n]);
+    for x in 0..n {
+        let [first, second] = pairs[x];
+        res[x] = residual(before[x][1], avg[x], next[x], first, second);
     }
 }
 

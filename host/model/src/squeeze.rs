@@ -31,16 +31,21 @@ pub fn rows_back(
 /// One row: `before` is the sample before it, `after` the next average where
 /// there is no tail average.
 fn row_back(avg: &[i32], residual: &[i32], before: i32, after: i32, out: &mut [i32]) {
-    let mut prev = before;
-    let nexts = avg[1..].iter().copied().chain([after]);
     let (pairs, tail) = out.as_chunks_mut::<2>();
-    for (((pair, &a), &r), c) in pairs.iter_mut().zip(avg).zip(residual).zip(nexts) {
-        let (first, second) = unsqueeze(prev, a, c, r);
+    let mut prev = before;
+    for ((pair, two), &r) in pairs.iter_mut().zip(avg.windows(2)).zip(residual) {
+        let (first, second) = unsqueeze(prev, two[0], two[1], r);
         *pair = [first, second];
         prev = second;
     }
-    if let [last] = tail {
-        *last = avg[avg.len() - 1];
+    let last = avg[avg.len() - 1];
+    match (tail, pairs) {
+        ([tail], _) => *tail = last,
+        (_, [.., pair]) => {
+            let (first, second) = unsqueeze(prev, last, after, residual[residual.len() - 1]);
+            *pair = [first, second];
+        }
+        _ => {}
     }
 }
 
