@@ -219,6 +219,28 @@ fn a_run_of_16777216_samples() {
     assert!(outputs[1] == input);
 }
 
+/// Empty slices straight from Rust, whose pointers lead nowhere.
+#[test]
+fn empty_slices() {
+    let empty = Record::new().channel(0, 5).channel(8, 0);
+    let refused = Err(squeeze::Refusal::Count);
+    assert_eq!(
+        squeeze::rebuild(empty.bytes(), &[], &mut [], &mut []),
+        Ok(())
+    );
+    assert_eq!(squeeze::write(empty.bytes(), &[], &mut [], &mut []), Ok(()));
+    assert_eq!(squeeze::rebuild_picture(&[], &[]), refused.clone());
+    assert_eq!(squeeze::write_pyramid(&[], &[]), refused);
+    for horizontal in [true, false] {
+        let size = squeeze::Size {
+            width: 0,
+            height: 0,
+        };
+        let sizes = squeeze::TileSizes::of_output(horizontal, size);
+        assert_eq!(squeeze::tile(&sizes, &[], &[], &[], &[], &mut []), Ok(()));
+    }
+}
+
 #[test]
 fn room_for_the_listing() {
     let mut random = Random::new(59);
