@@ -1,0 +1,100 @@
+//! Three of the C functions as a C program sees them, for arguments that the
+//! safe functions can't express: other numbers than 0 and 1 for the direction,
+//! room for the listing, a rectangle of another length.
+
+extern "C" {
+    fn squeeze_tile(
+        horizontal: u32,
+        aw: usize,
+        ah: usize,
+        rw: usize,
+        rh: usize,
+        ow: usize,
+        oh: usize,
+        avg: *const i32,
+        avg_len: usize,
+        res: *const i32,
+        res_len: usize,
+        next: *const i32,
+        next_len: usize,
+        prev: *const i32,
+        prev_len: usize,
+        out: *mut i32,
+        out_len: usize,
+    ) -> u32;
+
+    fn squeeze_listing(
+        record: *const u8,
+        record_len: usize,
+        text: *mut u8,
+        text_len: usize,
+    ) -> usize;
+
+    fn squeeze_grid_rect(
+        width: u16,
+        height: u16,
+        hshift: u8,
+        vshift: u8,
+        output: u8,
+        stored: u8,
+        group: u32,
+        gx: u16,
+        gy: u16,
+        rect: *mut u32,
+        rect_len: usize,
+    ) -> u32;
+}
+
+/// Averages, residuals, next line, previous line.
+pub type Inputs<'a> = [&'a [i32]; 4];
+
+pub fn tile(horizontal: u32, sizes: [(usize, usize); 3], inputs: Inputs, out: &mut [i32]) -> u32 {
+    let [(aw, ah), (rw, rh), (ow, oh)] = sizes;
+    let [avg, res, next, prev] = inputs;
+    // SAFETY: references are aligned, not null, and the mutable one overlaps nothing.
+    unsafe {
+        squeeze_tile(
+            horizontal,
+            aw,
+            ah,
+            rw,
+            rh,
+            ow,
+            oh,
+            avg.as_ptr(),
+            avg.len(),
+            res.as_ptr(),
+            res.len(),
+            next.as_ptr(),
+            next.len(),
+            prev.as_ptr(),
+            prev.len(),
+            out.as_mut_ptr(),
+            out.len(),
+        )
+    }
+}
+
+pub fn listing(record: &[u8], text: &mut [u8]) -> usize {
+    // SAFETY: as above.
+    unsafe { squeeze_listing(record.as_ptr(), record.len(), text.as_mut_ptr(), text.len()) }
+}
+
+pub fn grid_rect(query: &squeeze::GridQuery, rect: &mut [u32]) -> u32 {
+    // SAFETY: as above.
+    unsafe {
+        squeeze_grid_rect(
+            query.width,
+            query.height,
+            query.hshift,
+            query.vshift,
+            query.output.0,
+            query.stored.0,
+            query.group,
+            query.gx,
+            query.gy,
+            rect.as_mut_ptr(),
+            rect.len(),
+        )
+    }
+}

@@ -1,0 +1,234 @@
+//! Times the core against the plain Rust of `model/` and against a copy of as
+//! many samples, and prints one table.
+//!
+//! `cargo run --release --example bench -- [SECONDS]` spends about so many
+//! seconds on each row (2 if not given).
+
+use squeeze::{Record, Size, TileSizes};
+use squeeze_compare::random::Random;
+use squeeze_model as model;
+use std::hint::black_box;
+use std::time::{Duration, Instant};
+
+/// Nanoseconds per sample: core, plain Rust, copy.
+struct Times {
+    ours: f64,
+    plain: f64,
+    copy: f64,
+}
+
+const SIDES: [usize; 4] = [64, 1024, 2048, 4096];
+const NAMES: [&str; 4] = ["tile, rows", "tile, columns", "rebuild", "write"];
+
+fn main() {
+    let seconds = match std::env::args().nth(1).map(|word| word.parse::<f64>()) {
+        None => 2.0,
+        Some(Ok(seconds)) if seconds > 0.0 => seconds,
+        Some(_) => {
+            eprintln!("usage: bench [SECONDS], the time for a row, above 0");
+            std::process::exit(1);
+        }
+    };
+    let budget = Duration::from_secs_f64(seconds);
+    println!("best call within {seconds} s per row; core, plain Rust and copy in turns");
+    println!("in nanoseconds per sample, {CLOCK}");
+    println!(
+        "buffers warm: all touched before; at 4096 x 4096 (64 MB a slice) no cache holds them"
+    );
+    println!();
+    println!(
+        "{:<16} {:>11} {:>9} {:>9} {:>9} {:>9} {:>9}",
+        "", "samples", "/ plain", "/ copy", "ours ns", "plain ns", "copy ns"
+    );
+    let rows: Vec<[Times; 4]> = SIDES.iter().map(|&side| measure(side, budget)).collect();
+    print_ratios(&rows);
+}
+
+/// The four rows of one picture size.
+fn measure(side: usize, budget: Duration) -> [Times; 4] {
+    let picture = photograph(side);
+    let measured = [
+        tile(true, side, &picture, budget),
+        tile(false, side, &picture, budget),
+        rebuild(side, &picture, budget),
+        write(side, &picture, budget),
+    ];
+    for (name, times) in NAMES.iter().zip(&measured) {
+        print_row(name, side, times);
+    }
+    measured
+}
+
+/// Eight-bit samples: slow waves, an edge now and then, and some noise.
+fn photograph(side: usize) -> Vec<i32> {
+    let mut random = Random::new(2026);
+    let mut picture = Vec::with_capacity(side * side);
+    for y in 0..side {
+        for x in 0..side {
+            let wave = (x as f64 / 61.0).sin() * 50.0 + (y as f64 / 47.0).cos() * 40.0;
+            let edge = if (x / 96 + y / 80) % 5 == 0 { 35 } else { 0 };
+            let noise = random.below(9) as i32 - 4;
+            picture.push((110 + wave as i32 + edge + noise).clamp(0, 255));
+        }
+    }
+    picture
+}
+
+/// One inverse squeeze over the whole picture as a single tile.
+fn tile(horizontal: bool, side: usize, picture: &[i32], budget: Duration) -> Times {
+    let size = Size {
+        width: side,
+        height: side,
+    };
+    let sizes = TileSizes::of_output(horizontal, size);
+    let plain_sizes = model::tile::Sizes {
+        horizontal,
+        avg: (sizes.avg.width, sizes.avg.height),
+        residual: (sizes.residual.width, sizes.residual.height),
+        output: (side, side),
+    };
+    let half = picture.len() / 2;
+    let (mut avg, mut residual) = (vec![0; half], vec![0; half]);
+    if horizontal {
+        model::forward::rows_forward(side, picture, &mut avg, &mut residual);
+    } else {
+        model::forward::columns_forward(side, side, picture, &mut avg, &mut residual);
+    }
+    let ours = |out: &mut [i32], _: &mut [i32]| {
+        squeeze::tile(&sizes, &avg, &residual, &[], &[], out).expect("accepted");
+    };
+    let plain = |out: &mut [i32], _: &mut [i32]| {
+        let answer = model::tile::tile(&plain_sizes, &avg, &residual, &[], &[], out);
+        assert_eq!(answer, 0);
+    };
+    race(picture, picture, ours, plain, budget)
+}
+
+fn rebuild(side: usize, picture: &[i32], budget: Duration) -> Times {
+    let record = Record::new().channel(side as u16, side as u16);
+    let record = record.bytes();
+    let pyramid = squeeze::write_pyramid(record, picture).expect("accepted");
+    let ours = |out: &mut [i32], work: &mut [i32]| {
+        squeeze::rebuild(record, &pyramid, out, work).expect("accepted");
+    };
+    let plain = |out: &mut [i32], work: &mut [i32]| {
+        assert_eq!(model::run::rebuild(record, &pyramid, out, work), 0);
+    };
+    race(picture, picture, ours, plain, budget)
+}
+
+fn write(side: usize, picture: &[i32], budget: Duration) -> Times {
+    let record = Record::new().channel(side as u16, side as u16);
+    let record = record.bytes();
+    let pyramid = squeeze::write_pyramid(record, picture).expect("accepted");
+    let ours = |out: &mut [i32], work: &mut [i32]| {
+        squeeze::write(record, picture, out, work).expect("accepted");
+    };
+    let plain = |out: &mut [i32], work: &mut [i32]| {
+        assert_eq!(model::run::write(record, picture, out, work), 0);
+    };
+    race(picture, &pyramid, ours, plain, budget)
+}
+
+/// Best time of each, taken in turns, after one untimed call of each whose
+/// output must be `expected`.
+fn race(
+    picture: &[i32],
+    expected: &[i32],
+    ours: impl Fn(&mut [i32], &mut [i32]),
+    plain: impl Fn(&mut [i32], &mut [i32]),
+    budget: Duration,
+) -> Times {
+    let number = picture.len();
+    let [mut out, mut work] = [7, 8].map(|sample| vec![sample; number]);
+    let [mut plain_out, mut plain_work] = [9, 10].map(|sample| vec![sample; number]);
+    let mut target = vec![11; number];
+    ours(&mut out, &mut work);
+    plain(&mut plain_out, &mut plain_work);
+    assert!(out == expected, "the core's output is another");
+    assert!(plain_out == expected, "plain Rust's output is another");
+    target.copy_from_slice(picture);
+    // Several calls make one measurement where a call is short.
+    let calls = (1usize << 18).div_ceil(number);
+    let mut best = [f64::INFINITY; 3];
+    let start = Instant::now();
+    let mut rounds = 0;
+    while rounds < 3 || start.elapsed() < budget {
+        best[0] = best[0].min(time(calls, || ours(&mut out, &mut work)));
+        best[1] = best[1].min(time(calls, || plain(&mut plain_out, &mut plain_work)));
+        best[2] = best[2].min(time(calls, || {
+            target.copy_from_slice(black_box(picture));
+            black_box(&mut target);
+        }));
+        rounds += 1;
+    }
+    let [ours, plain, copy] = best.map(|seconds| seconds * 1e9 / (calls * number) as f64);
+    Times { ours, plain, copy }
+}
+
+fn time(calls: usize, mut run: impl FnMut()) -> f64 {
+    let start = now();
+    for _ in 0..calls {
+        run();
+    }
+    now() - start
+}
+
+#[cfg(all(target_os = "linux", target_pointer_width = "64"))]
+const CLOCK: &str = "the thread's processor time";
+
+/// Seconds that this thread has run: other programs on the machine don't count,
+/// but they share its caches.
+#[cfg(all(target_os = "linux", target_pointer_width = "64"))]
+fn now() -> f64 {
+    extern "C" {
+        fn clock_gettime(clock: i32, time: *mut [i64; 2]) -> i32;
+    }
+    const THREAD: i32 = 3;
+    let mut time = [0; 2];
+    // SAFETY: on such machines a timespec is two i64, and the array is one.
+    assert_eq!(unsafe { clock_gettime(THREAD, &mut time) }, 0);
+    time[0] as f64 + time[1] as f64 * 1e-9
+}
+
+#[cfg(not(all(target_os = "linux", target_pointer_width = "64")))]
+const CLOCK: &str = "time on the wall clock";
+
+#[cfg(not(all(target_os = "linux", target_pointer_width = "64")))]
+fn now() -> f64 {
+    use std::sync::OnceLock;
+    static START: OnceLock<Instant> = OnceLock::new();
+    START.get_or_init(Instant::now).elapsed().as_secs_f64()
+}
+
+fn print_row(name: &str, side: usize, times: &Times) {
+    let Times { ours, plain, copy } = *times;
+    println!(
+        "{name:<16} {:>11} {:>9.2} {:>9.2} {ours:>9.3} {plain:>9.3} {copy:>9.3}",
+        format!("{side} x {side}"),
+        ours / plain,
+        ours / copy,
+    );
+}
+
+fn print_ratios(rows: &[[Times; 4]]) {
+    let [small, million, _, large] = rows else {
+        unreachable!("one row per side")
+    };
+    println!();
+    println!("time per call at 64 x 64, in microseconds:");
+    for (name, times) in NAMES.iter().zip(small) {
+        let [ours, plain, copy] = [times.ours, times.plain, times.copy].map(|ns| ns * 4.096);
+        println!("  {name}: ours {ours:.2}, plain {plain:.2}, copy {copy:.2}");
+    }
+    println!("time per sample at 4096 x 4096 over that at 1024 x 1024:");
+    for (name, k) in [("rebuild", 2), ("write", 3)] {
+        let ours = large[k].ours / million[k].ours;
+        let plain = large[k].plain / million[k].plain;
+        println!("  {name}: ours {ours:.2}, plain {plain:.2}");
+    }
+    println!("rebuild at 4096 x 4096 over one tile call by rows and one by columns:");
+    let ours = large[2].ours / (large[0].ours + large[1].ours);
+    let plain = large[2].plain / (large[0].plain + large[1].plain);
+    println!("  ours {ours:.2}, plain {plain:.2}");
+}

@@ -1,0 +1,55 @@
+//! Feeds random and damaged records, sizes and slices to every exported
+//! function and compares with the model.
+//!
+//! `cargo run --release --example fuzz -- [COUNT [SEED]]`; 1,000,000 calls with
+//! seed 1 if not given. Exit status 1 if anything differs or a refusal was never
+//! met.
+
+use squeeze_compare::fuzz::{run, Report, ANSWERS, FUNCTIONS};
+
+fn main() {
+    let words: Vec<String> = std::env::args().skip(1).collect();
+    let word = |k: usize, default: u64| match words.get(k).map(|word| word.parse()) {
+        None => default,
+        Some(Ok(value)) => value,
+        Some(Err(_)) => usage(),
+    };
+    if words.len() > 2 {
+        usage();
+    }
+    let (count, seed) = (word(0, 1_000_000), word(1, 1));
+    let report = run(count, seed);
+    print(&report, count, seed);
+    let missing = report.never_met();
+    if !missing.is_empty() {
+        println!("never met: {missing:?}");
+    }
+    if !missing.is_empty() || !report.differences.is_empty() {
+        std::process::exit(1);
+    }
+}
+
+fn usage() -> ! {
+    eprintln!("usage: fuzz [COUNT [SEED]]");
+    std::process::exit(1);
+}
+
+fn print(report: &Report, count: u64, seed: u64) {
+    println!("{count} calls, seed {seed}; how often each answer was met");
+    print!("{:<10}", "");
+    for answer in 0..ANSWERS {
+        print!(" {answer:>7}");
+    }
+    println!();
+    for (name, row) in FUNCTIONS.iter().zip(&report.met) {
+        print!("{name:<10}");
+        for times in row {
+            print!(" {times:>7}");
+        }
+        println!();
+    }
+    println!("differences: {}", report.differences.len());
+    for text in &report.differences {
+        println!("{text}");
+    }
+}

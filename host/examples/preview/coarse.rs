@@ -1,0 +1,57 @@
+//! The preview that a picture's coarse averages give.
+
+use crate::pnm::Picture;
+use squeeze::{layout, write_pyramid, Channel, Record, Refusal};
+
+/// A preview, and how many samples of the pyramid it took.
+pub struct Preview {
+    /// As wide and high as the first channel's average.
+    pub picture: Picture,
+    /// Samples at the front of the pyramid.
+    pub arrived: usize,
+}
+
+/// Squeezes a picture with the default plan. The front of its pyramid holds one
+/// average for each of its channels, in order.
+pub fn preview(picture: &Picture) -> Result<Preview, Refusal> {
+    let mut record = Record::new();
+    for _ in 0..picture.channels {
+        record = record.channel(picture.width as u16, picture.height as u16);
+    }
+    let pyramid = write_pyramid(record.bytes(), &picture.planes())?;
+    let averages = &layout(record.bytes())?.channels[..picture.channels];
+    let arrived = averages.iter().map(Channel::samples).sum();
+    let picture = assemble(averages, &pyramid[..arrived], picture.maxval);
+    Ok(Preview { picture, arrived })
+}
+
+/// One picture of averages. The default plan squeezes the second and third
+/// channel once more; they are drawn by their nearest sample.
+fn assemble(averages: &[Channel], samples: &[i32], maxval: u16) -> Picture {
+    let (width, height) = (averages[0].width.into(), averages[0].height.into());
+    let mut out = vec![0; width * height * averages.len()];
+    let mut start = 0;
+    for (k, channel) in averages.iter().enumerate() {
+        let (w, h) = (usize::from(channel.width), usize::from(channel.height));
+        for y in 0..height {
+            for x in 0..width {
+                let at = start + nearest(y, height, h) * w + nearest(x, width, w);
+                out[(y * width + x) * averages.len() + k] = samples[at] as u16;
+            }
+        }
+        start += w * h;
+    }
+    Picture {
+        width,
+        height,
+        channels: averages.len(),
+        maxval,
+        samples: out,
+    }
+}
+
+/// The sample of `few` whose place is nearest to the middle of sample `at` of
+/// `many`.
+fn nearest(at: usize, many: usize, few: usize) -> usize {
+    (2 * at + 1) * few / (2 * many)
+}

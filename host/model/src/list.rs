@@ -1,0 +1,133 @@
+//! Channel lists, and what a step makes of one.
+
+use crate::{refusal, COARSE_SIDE, MAX_CHANNELS, MAX_SAMPLES, MAX_SHIFT};
+
+/// A channel: its sides, and its shifts unless it is meta.
+#[derive(Clone, Copy, Debug, PartialEq, Eq)]
+pub struct Channel {
+    /// Samples in a row.
+    pub width: u16,
+    /// Rows.
+    pub height: u16,
+    /// Horizontal and vertical shift; none for meta.
+    pub shifts: Option<(u8, u8)>,
+}
+
+/// A step: its direction, its place and its range.
+#[derive(Clone, Copy, Debug, PartialEq, Eq)]
+pub struct Step {
+    /// Along the rows.
+    pub horizontal: bool,
+    /// Residuals straight after the range.
+    pub in_place: bool,
+    /// First channel.
+    pub first: u16,
+    /// Number of channels.
+    pub number: u16,
+}
+
+impl Channel {
+    /// How many samples it has.
+    pub fn samples(&self) -> usize {
+        usize::from(self.width) * usize::from(self.height)
+    }
+
+    /// Whether it is meta.
+    pub fn meta(&self) -> bool {
+        self.shifts.is_none()
+    }
+
+    /// The average and the residual that a step makes of it.
+    pub fn halves(&self, horizontal: bool) -> (Channel, Channel) {
+        let mut average = *self;
+        let mut residual = *self;
+        if horizontal {
+            average.width = self.width.div_ceil(2);
+            residual.width = self.width - average.width;
+        } else {
+            average.height = self.height.div_ceil(2);
+            residual.height = self.height - average.height;
+        }
+        let shifted = |(h, v)| if horizontal { (h + 1, v) } else { (h, v + 1) };
+        average.shifts = self.shifts.map(shifted);
+        residual.shifts = average.shifts;
+        (average, residual)
+    }
+}
+
+impl Step {
+    /// Its range, as positions of a list that the step fits.
+    pub fn range(&self) -> std::ops::Range<usize> {
+        let first = usize::from(self.first);
+        first..first + usize::from(self.number)
+    }
+
+    /// Where the first residual goes in a list of `count` channels.
+    pub fn residuals_at(&self, count: usize) -> usize {
+        if self.in_place {
+            self.range().end
+        } else {
+            count
+        }
+    }
+}
+
+/// The samples of a list.
+pub fn total(list: &[Channel]) -> usize {
+    list.iter().map(Channel::samples).sum()
+}
+
+/// Question 5.
+pub fn check_total(list: &[Channel]) -> Result<(), u32> {
+    match total(list) as u64 {
+        0..=MAX_SAMPLES => Ok(()),
+        _ => Err(refusal::SAMPLES),
+    }
+}
+
+/// Questions 7 to 11.
+pub fn check_step(list: &[Channel], step: &Step) -> Result<(), u32> {
+    let range = step.range();
+    if step.number == 0 || range.end > list.len() {
+        return Err(refusal::RANGE);
+    }
+    let channels = &list[range];
+    let meta = channels[0].meta();
+    if meta != channels[channels.len() - 1].meta() {
+        return Err(refusal::MIXED);
+    }
+    if meta && !step.in_place {
+        return Err(refusal::META_PLACE);
+    }
+    if channels.iter().any(|c| c.width == 0 || c.height == 0) {
+        return Err(refusal::EMPTY);
+    }
+    let deep = |c: &Channel| match c.shifts {
+        Some((h, v)) => (if step.horizontal { h } else { v }) >= MAX_SHIFT,
+        None => false,
+    };
+    if list.len() + channels.len() > MAX_CHANNELS || channels.iter().any(deep) {
+        return Err(refusal::DEEP);
+    }
+    Ok(())
+}
+
+/// The next list, or the refusal.
+pub fn take_step(list: &[Channel], step: &Step) -> Result<Vec<Channel>, u32> {
+    check_step(list, step)?;
+    let mut next = list.to_vec();
+    let at = step.residuals_at(list.len());
+    for (n, k) in step.range().enumerate() {
+        let (average, residual) = list[k].halves(step.horizontal);
+        next[k] = average;
+        next.insert(at + n, residual);
+    }
+    Ok(next)
+}
+
+/// The number of leading channels up to the first with a side above 8.
+pub fn coarse_count(list: &[Channel]) -> usize {
+    list.iter()
+        .take_while(|c| c.width <= COARSE_SIDE && c.height <= COARSE_SIDE)
+        .count()
+}

@@ -1,0 +1,92 @@
+//! Plans: the default one, and the lists that a plan goes through.
+
+use crate::list::{check_total, take_step, Channel, Step};
+use crate::{refusal, COARSE_SIDE};
+
+/// The default plan, or refusal 11.
+pub fn default_plan(list: &[Channel]) -> Result<Vec<Step>, u32> {
+    let meta = list.iter().filter(|c| c.meta()).count();
+    let others: Vec<&Channel> = list.iter().filter(|c| !c.meta()).collect();
+    let Some(leader) = others.first() else {
+        return Err(refusal::ONLY_META);
+    };
+    let (w, h) = (leader.width, leader.height);
+    let mut steps = Vec::new();
+    if others.len() > 2 && (others[1].width, others[1].height) == (w, h) {
+        chroma_steps(meta, w, h, &mut steps);
+    }
+    all_steps(meta, others.len(), w, h, &mut steps);
+    Ok(steps)
+}
+
+/// The steps on the second and third channel that is not meta.
+fn chroma_steps(meta: usize, w: u16, h: u16, steps: &mut Vec<Step>) {
+    let step = |horizontal| Step {
+        horizontal,
+        in_place: false,
+        first: meta as u16 + 1,
+        number: 2,
+    };
+    if w > 1 {
+        steps.push(step(true));
+    }
+    if h > 1 {
+        steps.push(step(false));
+    }
+}
+
+/// The in-place steps on all `n` channels that are not meta.
+fn all_steps(meta: usize, n: usize, mut w: u16, mut h: u16, steps: &mut Vec<Step>) {
+    let step = |horizontal| Step {
+        horizontal,
+        in_place: true,
+        first: meta as u16,
+        number: n as u16,
+    };
+    if w <= h && h > COARSE_SIDE {
+        steps.push(step(false));
+        h = h.div_ceil(2);
+    }
+    while w > COARSE_SIDE || h > COARSE_SIDE {
+        if w > COARSE_SIDE {
+            steps.push(step(true));
+            w = w.div_ceil(2);
+        }
+        if h > COARSE_SIDE {
+            steps.push(step(false));
+            h = h.div_ceil(2);
+        }
+    }
+}
+
+/// An accepted plan: its steps, and the lists before, between and after them.
+#[derive(Clone, Debug, PartialEq, Eq)]
+pub struct Plan {
+    /// The steps; the default plan's if none were given.
+    pub steps: Vec<Step>,
+    /// One list more than steps.
+    pub lists: Vec<Vec<Channel>>,
+}
+
+impl Plan {
+    /// The list that the plan leaves.
+    pub fn layout(&self) -> &[Channel] {
+        &self.lists[self.steps.len()]
+    }
+}
+
+/// Questions 5 to 11 for a list of good form and the steps given.
+pub fn judge(list: Vec<Channel>, given: Vec<Step>) -> Result<Plan, u32> {
+    check_total(&list)?;
+    let steps = if given.is_empty() {
+        default_plan(&list)?
+    } else {
+        given
+    };
+    let mut lists = vec![list];
+    for (k, step) in steps.iter().enumerate() {
+        let next = take_step(&lists[k], step)?;
+        lists.push(next);
+    }
+    Ok(Plan { steps, lists })
+}

@@ -1,0 +1,169 @@
+//! What a record's plan does to its channel list.
+
+/// A channel of a list.
+#[derive(Clone, Copy, Debug, PartialEq, Eq, Hash)]
+pub struct Channel {
+    /// Samples in a row.
+    pub width: u16,
+    /// Rows.
+    pub height: u16,
+    /// Horizontal and vertical shift; none for a meta channel.
+    pub shifts: Option<(u8, u8)>,
+}
+
+impl Channel {
+    /// How many samples the channel has.
+    pub fn samples(&self) -> usize {
+        usize::from(self.width) * usize::from(self.height)
+    }
+}
+
+/// A step of a plan.
+#[derive(Clone, Copy, Debug, PartialEq, Eq, Hash)]
+pub struct Step {
+    /// Along the rows; else along the columns.
+    pub horizontal: bool,
+    /// Residuals straight after the range; else after the last channel.
+    pub in_place: bool,
+    /// The first channel of the range.
+    pub first: u16,
+    /// How many channels the range has.
+    pub number: u16,
+}
+
+/// The steps of an accepted record, the default plan's if the record has none,
+/// and the channels of its pyramid.
+#[derive(Clone, Debug, PartialEq, Eq)]
+pub struct Layout {
+    /// The steps, in the order in which the writer takes them.
+    pub steps: Vec<Step>,
+    /// The channels of the pyramid.
+    pub channels: Vec<Channel>,
+    /// How many leading channels have no side above 8.
+    pub coarse: usize,
+}
+
+impl Layout {
+    /// How many samples picture and pyramid have.
+    pub fn samples(&self) -> usize {
+        self.channels.iter().map(Channel::samples).sum()
+    }
+
+    /// How many samples at the front of the pyramid are coarse.
+    pub fn coarse_samples(&self) -> usize {
+        self.channels[..self.coarse]
+            .iter()
+            .map(Channel::samples)
+            .sum()
+    }
+}
+
+/// A listing taken apart: the layout, or the number after `refused`. Nothing if
+/// the text isn't a listing.
+pub(crate) fn parse(text: &str) -> Option<Result<Layout, u32>> {
+    let mut lines = text.lines();
+    let head = lines.next()?;
+    if let Some(number) = head.strip_prefix("refused ") {
+        return Some(Err(number.parse().ok()?));
+    }
+    let steps = read_lines(&mut lines, count(head, "steps ")?, step)?;
+    let number = count(lines.next()?, "channels ")?;
+    let channels = read_lines(&mut lines, number, channel)?;
+    let coarse = count(lines.next()?, "coarse ")?;
+    if lines.next().is_some() || coarse > channels.len() {
+        return None;
+    }
+    Some(Ok(Layout {
+        steps,
+        channels,
+        coarse,
+    }))
+}
+
+fn count(line: &str, word: &str) -> Option<usize> {
+    line.strip_prefix(word)?.parse().ok()
+}
+
+fn read_lines<'a, T>(
+    lines: &mut impl Iterator<Item = &'a str>,
+    number: usize,
+    read: fn(&str) -> Option<T>,
+) -> Option<Vec<T>> {
+    (0..number).map(|_| read(lines.next()?)).collect()
+}
+
+fn step(line: &str) -> Option<Step> {
+    let [direction, place, first, number] = words(line)?;
+    Some(Step {
+        horizontal: one_of(direction, "h", "v")?,
+        in_place: one_of(place, "in", "out")?,
+        first: first.parse().ok()?,
+        number: number.parse().ok()?,
+    })
+}
+
+fn channel(line: &str) -> Option<Channel> {
+    let [width, height, hshift, vshift] = words(line)?;
+    let shifts = if (hshift, vshift) == ("m", "m") {
+        None
+    } else {
+        Some((hshift.parse().ok()?, vshift.parse().ok()?))
+    };
+    Some(Channel {
+        width: width.parse().ok()?,
+        height: height.parse().ok()?,
+        shifts,
+    })
+}
+
+fn words(line: &str) -> Option<[&str; 4]> {
+    line.split(' ').collect::<Vec<_>>().try_into().ok()
+}
+
+fn one_of(word: &str, yes: &str, no: &str) -> Option<bool> {
+    match word {
+        _ if word == yes => Some(true),
+        _ if word == no => Some(false),
+        _ => None,
+    }
+}
+
+#[cfg(test)]
+mod tests {
+    use super::*;
+
+    #[test]
+    fn texts_that_are_no_listing() {
+        let cases = [
+            ("", "no head line"),
+            ("refused", "no number"),
+            ("steps 1\nchannels 0\ncoarse 0\n", "a step is missing"),
+            ("steps 0\nchannels 1\n5 5 0\ncoarse 0\n", "three words"),
+            ("steps 0\nchannels 1\n5 5 m 0\ncoarse 0\n", "half meta"),
+            (
+                "steps 0\nchannels 1\n5 5 0 0\ncoarse 2\n",
+                "coarse past the count",
+            ),
+            (
+                "steps 0\nchannels 1\n5 5 0 0\ncoarse 1\nend\n",
+                "a line too many",
+            ),
+            ("steps 1\nx in 0 1\nchannels 0\ncoarse 0\n", "no direction"),
+        ];
+        for (text, why) in cases {
+            assert_eq!(parse(text), None, "{why}");
+        }
+    }
+
+    #[test]
+    fn steps_channels_and_meta() {
+        let text = "steps 2\nh out 1 2\nv in 0 1\nchannels 2\n5 6 m m\n7 8 1 30\ncoarse 2\n";
+        let layout = parse(text).unwrap().unwrap();
+        assert!(layout.steps[0].horizontal && !layout.steps[0].in_place);
+        assert_eq!((layout.steps[0].first, layout.steps[0].number), (1, 2));
+        assert!(!layout.steps[1].horizontal && layout.steps[1].in_place);
+        assert_eq!(layout.channels[0].shifts, None);
+        assert_eq!(layout.channels[1].shifts, Some((1, 30)));
+        assert_eq!((layout.samples(), layout.coarse_samples()), (86, 86));
+    }
+}

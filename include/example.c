@@ -1,0 +1,46 @@
+/* A record, a picture, its pyramid and back, with the functions of squeeze.h.
+
+   cc -std=c99 -Wall -Wextra -pedantic -I include include/example.c \
+      target/staticlib/libsqueeze.a -o target/example */
+
+#include <stdio.h>
+#include <string.h>
+
+#include "squeeze.h"
+
+#define WIDTH 20
+#define HEIGHT 9
+#define SAMPLES (WIDTH * HEIGHT)
+
+int main(void)
+{
+    /* One channel, 20 by 9, shifts 0, and no steps: the default plan. */
+    static const uint8_t record[] = {1, 6, 0, WIDTH, 0, HEIGHT, 0, 0, 0};
+    static int32_t picture[SAMPLES], pyramid[SAMPLES], back[SAMPLES], work[SAMPLES];
+    static uint8_t text[8192];
+    uint32_t answer;
+    size_t length;
+    int i;
+
+    for (i = 0; i < SAMPLES; i++)
+        picture[i] = i % WIDTH * 3 + i / WIDTH * 5 + i % 7;
+
+    length = squeeze_listing(record, sizeof record, text, sizeof text);
+    fwrite(text, 1, length, stdout);
+
+    answer = squeeze_write(record, sizeof record, picture, SAMPLES, pyramid, SAMPLES,
+                           work, SAMPLES);
+    if (answer == 0)
+        answer = squeeze_rebuild(record, sizeof record, pyramid, SAMPLES, back, SAMPLES,
+                                 work, SAMPLES);
+    if (answer != 0) {
+        printf("refused %u\n", (unsigned)answer);
+        return 1;
+    }
+    if (memcmp(picture, back, sizeof picture) != 0) {
+        printf("the picture came back changed\n");
+        return 1;
+    }
+    printf("the picture came back, all %d samples equal\n", SAMPLES);
+    return 0;
+}
