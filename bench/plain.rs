@@ -1,5 +1,5 @@
-//! Document 01's tendency and pair in plain Rust, which bench/pair.rs measures
-//! the proved code against.
+//! Document 01's tendency and pair in plain Rust, which bench/pair.rs and
+//! bench/tile.rs measure the proved code against.
 
 /// The tendency as document 01 writes it, left early on a turn.
 #[inline(always)]
