@@ -1,10 +1,10 @@
-/* Squeeze of JPEG XL's Modular mode: the functions that the archives export.
+/* Squeeze of JPEG XL's Modular mode: the functions that libsqueeze.a exports.
 
-   All are in libsqueeze.a. A slice is a pointer and a number of elements. Slices
-   of one call must not overlap, and a pointer must be aligned and not null, for
-   an empty slice too. Every function but squeeze_listing answers 0, or the number
-   of a refusal; a refused call changes nothing. No other condition is asked of
-   any argument.
+   A slice is a pointer and a number of elements. Slices of one call must not
+   overlap, and a pointer must be aligned and not null, for an empty slice too.
+   No other condition is asked of any argument. Every function but
+   squeeze_listing answers 0, or the number of a refusal; a refused call changes
+   nothing.
 
    Refusals:  1 a field's head or length runs past the record
               2 unknown tag, wrong length, or a channel after a step
