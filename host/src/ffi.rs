@@ -1,5 +1,6 @@
 //! The five functions of `include/squeeze.h`. Each asks for aligned pointers
-//! that are not null and for slices that don't overlap; nothing else.
+//! that are not null and for slices that don't overlap; nothing else. Public for
+//! the comparisons, which pass what the safe functions can't express.
 
 extern "C" {
     pub fn squeeze_rebuild(

@@ -26,7 +26,8 @@
 
 #![warn(missing_docs)]
 
-mod ffi;
+#[doc(hidden)]
+pub mod ffi;
 mod layout;
 mod record;
 mod refusal;

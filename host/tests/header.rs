@@ -81,12 +81,6 @@ fn declarations_agree() {
     let header = header_functions();
     assert_eq!(header.len(), 5, "{header:?}");
     assert_eq!(rust_functions(include_str!("../src/ffi.rs")), header);
-    let raw = rust_functions(include_str!("../compare/src/raw.rs"));
-    assert_eq!(raw.len(), 3);
-    assert!(
-        raw.iter().all(|function| header.contains(function)),
-        "{raw:?}"
-    );
 }
 
 #[test]

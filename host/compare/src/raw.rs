@@ -2,48 +2,7 @@
 //! safe functions can't express: other numbers than 0 and 1 for the direction,
 //! room for the listing, a rectangle of another length.
 
-extern "C" {
-    fn squeeze_tile(
-        horizontal: u32,
-        aw: usize,
-        ah: usize,
-        rw: usize,
-        rh: usize,
-        ow: usize,
-        oh: usize,
-        avg: *const i32,
-        avg_len: usize,
-        res: *const i32,
-        res_len: usize,
-        next: *const i32,
-        next_len: usize,
-        prev: *const i32,
-        prev_len: usize,
-        out: *mut i32,
-        out_len: usize,
-    ) -> u32;
-
-    fn squeeze_listing(
-        record: *const u8,
-        record_len: usize,
-        text: *mut u8,
-        text_len: usize,
-    ) -> usize;
-
-    fn squeeze_grid_rect(
-        width: u16,
-        height: u16,
-        hshift: u8,
-        vshift: u8,
-        output: u8,
-        stored: u8,
-        group: u32,
-        gx: u16,
-        gy: u16,
-        rect: *mut u32,
-        rect_len: usize,
-    ) -> u32;
-}
+use squeeze::ffi::{squeeze_grid_rect, squeeze_listing, squeeze_tile};
 
 /// Averages, residuals, next line, previous line.
 pub type Inputs<'a> = [&'a [i32]; 4];
