@@ -3,32 +3,47 @@
 use mathlib.Core.Path.{_≡_, refl, sym, ap, _∙_}
 use mathlib.Core.Bool.{Bool, true, false, cond, _&&_, and-eq-true-iff}
 use mathlib.Core.List.{List, [], _∷_}
-use Prim.Native.Nat.{ℕ}
-use lib.Dec.{eqb}
+use Prim.Native.Nat.{ℕ, _≤_}
+use native.Mathlib.Omega.{arith}
+use lib.Dec.{eqb, leb}
 use lib.IntN.{ℤ}
 use lib.ListN.{length}
-use borrow.Author.Tests.{eqb-true, ne-eqb}
+use borrow.Author.Tests.{eqb-true, eq-eqb, ne-eqb}
 use Rattle.channel.specs.declared.Channel.{Channel}
+use Rattle.list.specs.declared.ChannelList.{ChannelList}
 use Rattle.list.specs.declared.Step.{Step}
-use Rattle.list.specs.Lists.{channels, stepped, total}
+use Rattle.list.specs.Lists as Lists
+use Rattle.list.specs.Lists.{maxChannels, channels, stepped, total}
 use Rattle.list.specs.Questions.{judgeStep}
+use Rattle.list.proofs.Acceptance.{count-inside}
 use Rattle.list.proofs.Asking.{passed}
+use Rattle.list.proofs.Packed.{channels-packed}
 use Rattle.list.proofs.Totals.{stepped-total}
 use Rattle.line.specs.Forward.{Samples}
+use Rattle.tile.specs.Call as Tile
+use Rattle.tile.specs.Call.{Call}
 use Rattle.tile.proofs.Together.{tiles-together}
+use Rattle.plan.specs.declared.Steps.{Steps}
 use Rattle.plan.specs.Steps.{steps}
-use Rattle.plan.specs.Plans.{judgeSteps, steppedAll, meant}
+use Rattle.plan.specs.Plans as Plans
+use Rattle.plan.specs.Plans.{judgePlan, judgeSteps, steppedAll, meant, rewritten}
 use Rattle.plan.proofs.Runs.{none-refused}
-use Rattle.plan.proofs.Judged.{meant-judged}
+use Rattle.plan.proofs.Answers.{rewritten-accepted}
+use Rattle.plan.proofs.Judged.{plan-answer, meant-judged}
 use Rattle.plan.proofs.AsStandard.{list-standard}
 use Rattle.record.specs.declared.Record.{Record}
-use Rattle.record.specs.Records.{readAnswer, readOf}
+use Rattle.record.specs.Records as Records
+use Rattle.record.specs.Records.{readAnswer, readOf, writeAnswer, writtenOf, writtenBytes}
 use Rattle.record.proofs.Readings.{read-answer, read-judged, list-back, steps-back}
+use Rattle.record.proofs.ReadWritten.{read-written}
+use Rattle.record.proofs.WrittenRead.{written-read, one-record}
+use Rattle.listing.specs.Listing as L
+use Rattle.listing.specs.Listing.{listing, listed, textAfter}
 use Rattle.runs.specs.Runs.{isTaken, layout}
 use Rattle.runs.specs.Claim.{Fills, ExactlyOne}
-use Rattle.runs.proofs.Whole.{squeezed-fills, squeezed-rebuilds, rebuilt-squeezes, exactly-one}
+use Rattle.runs.proofs.Whole.{squeezed-fills, squeezed-rebuilds, rebuilt-fills, rebuilt-squeezes, exactly-one}
 use Rattle.runs.proofs.AsStandard.{run-standard}
-use Rattle.squeeze.specs.Entry as E
+use Rattle.squeeze.specs.GridRect as Rect
 use Rattle.squeeze.specs.Entry.{channelsOf, stepsOf, fits, answer, pictureOf, pyramidOf, workOf}
 use Rattle.claims.specs.Demands.{RefusalKeeps, ListIsStandard, PictureIsStandard, WriterGivesIt, WrittenRebuilds, RebuiltWrites, TilesTogether, Demands}
 
@@ -73,16 +88,75 @@ module _ (bytes : List ℕ) (read filled work : List ℤ) (h : answer bytes read
   pyramid-fills : Samples read → Fills (layout (stepsOf bytes) (channelsOf bytes)) read
   pyramid-fills s = record { long = read-long ∙ sym (layout-total (stepsOf bytes) (channelsOf bytes)); samples = s }
 
+-- slices of the record's length are accepted
+accepts : (bytes : List ℕ) → readAnswer bytes ≡ 0 → (read filled work : List ℤ)
+    → length read ≡ total (channelsOf bytes) → length filled ≡ total (channelsOf bytes) → length work ≡ total (channelsOf bytes)
+    → answer bytes read filled work ≡ 0
+unfolding answer
+accepts bytes z read filled work r f w = rw (z, eq-eqb _ _ r, eq-eqb _ _ f, eq-eqb _ _ w)
+
 -- ---- demand 1
-refusal-keeps : RefusalKeeps
+run-keeps : (bytes : List ℕ) (read filled work : List ℤ) → (answer bytes read filled work ≡ 0 → ⊥)
+    → (pictureOf bytes read filled work ≡ filled) × (pyramidOf bytes read filled work ≡ filled) × (workOf bytes read filled work ≡ work)
 unfolding pictureOf pyramidOf workOf
-refusal-keeps bytes read filled work h = let n = ne-eqb (answer bytes read filled work) 0 h in (rw n, rw n, rw n)
+run-keeps bytes read filled work h = let n = ne-eqb (answer bytes read filled work) 0 h in (rw n, rw n, rw n)
+
+tile-keeps : (c : Call) → (Tile.answer c ≡ 0 → ⊥) → Tile.after c ≡ c .out
+unfolding Tile.after
+tile-keeps c h = rw (ne-eqb (Tile.answer c) 0 h)
+
+rectangle-keeps : (c : Channel) (output stored group gx gy : ℕ) (numbers : List ℕ) → (Rect.answer c output stored group gx gy numbers ≡ 0 → ⊥)
+    → Rect.numbersAfter c output stored group gx gy numbers ≡ numbers
+unfolding Rect.numbersAfter
+rectangle-keeps c output stored group gx gy numbers h = rw (ne-eqb (Rect.answer c output stored group gx gy numbers) 0 h)
+
+listing-keeps : (bytes text : List ℕ) → (listed bytes text .answer ≡ 0 → ⊥) → (listed bytes text .length ≡ 0) × (textAfter bytes text ≡ text)
+unfolding L.listed L.textAfter
+listing-keeps bytes text = by (leb (length (listing bytes)) (length text)) refl
+  where
+    by : (b : Bool) → leb (length (listing bytes)) (length text) ≡ b → (listed bytes text .answer ≡ 0 → ⊥) → (listed bytes text .length ≡ 0) × (textAfter bytes text ≡ text)
+    by true e h = absurd (h (rw e))
+    by false e h = (rw e, rw e)
+
+writer-keeps : (l : ChannelList) (s : Steps) (out : List ℕ) → (writtenOf l s out .answer ≡ 0 → ⊥) → writtenBytes l s out ≡ out
+unfolding Records.writtenOf Records.writtenBytes
+writer-keeps l s out = by (eqb (writeAnswer l s out) 0) refl
+  where
+    by : (b : Bool) → eqb (writeAnswer l s out) 0 ≡ b → (writtenOf l s out .answer ≡ 0 → ⊥) → writtenBytes l s out ≡ out
+    by true e h = absurd (h (rw e))
+    by false e h = rw e
+
+refusal-keeps : RefusalKeeps
+refusal-keeps = record { runs = run-keeps; tile = tile-keeps; rectangle = rectangle-keeps; listing = listing-keeps; record-writer = writer-keeps }
+
+-- ---- a plan that is accepted
+module _ (l : ChannelList) (s : Steps) (z : rewritten l s .answer ≡ 0) where
+  judged : judgePlan l s ≡ 0
+  judged = sym (plan-answer l s (rewritten l s) refl) ∙ z
+
+  reached-few : rewritten l s .list .count ≤ maxChannels
+  reached-few = count-inside (rewritten l s .list) (rewritten-accepted l s z) .1
+
+  reached-back : channels (rewritten l s .list) ≡ steppedAll (meant (steps s) (channels l)) (channels l)
+  unfolding Plans.rewritten Plans.outcome Lists.packed
+  reached-back =
+      let cs = steppedAll (meant (steps s) (channels l)) (channels l) in
+      let packs : rewritten l s .list ≡ Lists.packed cs = rw judged in
+      ap channels packs ∙ channels-packed cs (omega (arith, ap (λ (x : ChannelList). x .count) packs, reached-few))
+
+  reached-total : total (channels (rewritten l s .list)) ≡ total (channels l)
+  reached-total =
+      ap total (reached-back ∙ sym (layout-reached (meant (steps s) (channels l)) (channels l) (meant-judged l s judged)))
+      ∙ layout-total (meant (steps s) (channels l)) (channels l)
 
 -- ---- demand 2
 list-is-standard : ListIsStandard
-list-is-standard bytes z =
-    let j = steps-judged bytes z in
-    rw (layout-reached (stepsOf bytes) (channelsOf bytes) j) (list-standard (stepsOf bytes) (channelsOf bytes) j)
+list-is-standard =
+    record {
+      rewrites = λ l s z. rw (reached-back l s z) (list-standard (meant (steps s) (channels l)) (channels l) (meant-judged l s (judged l s z)));
+      listed = λ bytes z. list-standard (stepsOf bytes) (channelsOf bytes) (steps-judged bytes z);
+      laid-out = λ bytes z. layout-reached (stepsOf bytes) (channelsOf bytes) (steps-judged bytes z);
+    }
 
 picture-is-standard : PictureIsStandard
 unfolding pictureOf
@@ -100,13 +174,24 @@ writer-gives-it bytes picture pyramid work s h one =
 
 written-rebuilds : WrittenRebuilds
 unfolding pictureOf pyramidOf
-written-rebuilds bytes picture pyramid work picture₂ work₂ s a b =
-    rw (b, a) (squeezed-rebuilds (stepsOf bytes) (channelsOf bytes) picture (picture-fills bytes picture pyramid work a s))
+written-rebuilds bytes picture pyramid work picture₂ work₂ s a p w =
+    let ss = stepsOf bytes in
+    let cs = channelsOf bytes in
+    let f = picture-fills bytes picture pyramid work a s in
+    let long : length (pyramidOf bytes picture pyramid work) ≡ total cs = rw a (squeezed-fills ss cs picture f .long ∙ layout-total ss cs) in
+    let b = accepts bytes (asked bytes picture pyramid work a .0) (pyramidOf bytes picture pyramid work) picture₂ work₂ long (p ∙ f .long) (w ∙ f .long) in
+    (b, rw (b, a) (squeezed-rebuilds ss cs picture f))
 
 rebuilt-writes : RebuiltWrites
 unfolding pictureOf pyramidOf
-rebuilt-writes bytes pyramid picture work pyramid₂ work₂ s a b =
-    rw (b, a) (rebuilt-squeezes (stepsOf bytes) (channelsOf bytes) pyramid (pyramid-fills bytes pyramid picture work a s))
+rebuilt-writes bytes pyramid picture work pyramid₂ work₂ s a p w =
+    let ss = stepsOf bytes in
+    let cs = channelsOf bytes in
+    let f = pyramid-fills bytes pyramid picture work a s in
+    let n = read-long bytes pyramid picture work a in
+    let long : length (pictureOf bytes pyramid picture work) ≡ total cs = rw a (rebuilt-fills ss cs pyramid f .long) in
+    let b = accepts bytes (asked bytes pyramid picture work a .0) (pictureOf bytes pyramid picture work) pyramid₂ work₂ long (p ∙ n) (w ∙ n) in
+    (b, rw (b, a) (rebuilt-squeezes ss cs pyramid f))
 
 -- ---- all of them
 pub demands : Demands
@@ -115,6 +200,8 @@ demands =
       refusal-keeps = refusal-keeps;
       list-is-standard = list-is-standard;
       picture-is-standard = picture-is-standard;
+      total-stays = record { laid-out = layout-total; rewrites = reached-total };
+      record-undone = record { read-written = read-written; written-read = written-read; one-record = one-record };
       one-pyramid = exactly-one;
       writer-gives-it = writer-gives-it;
       written-rebuilds = written-rebuilds;

@@ -35,4 +35,4 @@ unfolding
     Records.readAnswer
     Text.decimal Text.stepLine Text.channelLine
     Listing.planText Listing.listing
-table = (refl, refl, refl, refl, refl, refl, refl, refl, (refl, refl), (refl, refl), refl, refl, refl, refl, refl)
+table = (refl, refl, refl, refl, refl, refl, refl, refl, (refl, refl), refl, refl, refl, refl, refl, refl)

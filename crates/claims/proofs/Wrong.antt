@@ -1,5 +1,5 @@
--- The wrong programs (specs/Wrong.antt) differ from the contract on one record: a picture 17 by 1 under the default plan, which takes two steps.
--- Assumes nothing.
+-- The wrong programs (specs/Wrong.antt) differ from the contracts on a picture 17 by 1 under the default plan, which takes two steps; the wrong
+-- counts there or on document 01's picture 20 by 9. What either side gives is computed. Assumes nothing.
 use mathlib.Core.Path.{_≡_, refl, ap, sym, _∙_}
 use mathlib.Core.List.{List, [], _∷_}
 use Prim.Native.Nat.{ℕ}
@@ -11,101 +11,142 @@ use Rattle.tendency.specs.Tendency as Tend
 use Rattle.pair.specs.Pair as Pair
 use Rattle.line.specs.Line as Line
 use Rattle.line.specs.Uncut as Uncut
+use Rattle.line.specs.Forward as Forward
 use Rattle.channel.specs.Channel as Channel
 use Rattle.list.specs.Lists as Lists
 use Rattle.list.specs.Questions as Questions
 use Rattle.plan.specs.Steps as Steps
 use Rattle.plan.specs.Default as Default
+use Rattle.plan.specs.Default.{stoppingSide, coarseCount}
 use Rattle.plan.specs.Plans as Plans
+use Rattle.plan.specs.Plans.{steppedAll}
 use Rattle.record.specs.Reading as Reading
 use Rattle.record.specs.Records as Records
+use Rattle.record.specs.Records.{readAnswer}
 use Rattle.buffer.specs.Buffer as Buffer
 use Rattle.runs.specs.Runs as Runs
 use Rattle.squeeze.specs.Entry as Entry
-use Rattle.squeeze.specs.Entry.{answer, pictureOf}
-use Rattle.claims.specs.Wrong.{Program, copies, zeroes, leaves, firstOnly, Refuted, Wrong}
+use Rattle.squeeze.specs.Entry.{channelsOf, stepsOf, answer, pictureOf, pyramidOf}
+use Rattle.claims.specs.Table.{record20by9}
+use Rattle.claims.specs.Wrong.{Program, Refuted, copies, zeroes, leaves, firstOnly, firstWritten, lastOnly, Count, CountRefuted, everyChannel, beforeThePlan, Wrong}
 
--- the record, its pyramid, and a slice of zeros
+-- the record, the samples that are read, and slices of zeros
 bytes : List ℕ
 bytes = 1 ∷ 6 ∷ 0 ∷ 17 ∷ 0 ∷ 1 ∷ 0 ∷ 0 ∷ 0 ∷ []
 
-pyramid : List ℤ
-pyramid = pos 10 ∷ pos 10 ∷ pos 10 ∷ pos 10 ∷ pos 10 ∷ pos 1 ∷ pos 0 ∷ pos 0 ∷ pos 0 ∷ pos 2 ∷ replicate 7 (pos 0)
+read : List ℤ
+read = pos 10 ∷ pos 10 ∷ pos 10 ∷ pos 10 ∷ pos 10 ∷ pos 1 ∷ pos 0 ∷ pos 0 ∷ pos 0 ∷ pos 2 ∷ replicate 7 (pos 0)
 
 none : List ℤ
 none = replicate 17 (pos 0)
 
-accepted : answer bytes pyramid none none ≡ 0
-unfolding
-    bytes pyramid none
-    Channel.isMeta Channel.shiftsAllowed Channel.samples
-    Lists.channels Lists.packed Lists.raised Lists.average Lists.residual Lists.stepped
-    Questions.countAllowed Questions.channelsAllowed Questions.totalAllowed Questions.rangeAllowed Questions.kindsAlike Questions.placeAllowed Questions.hasSides Questions.shiftsKept Questions.roomLeft Questions.judgeStep
-    Steps.flagsOf Steps.flagsAllowed Steps.steps Steps.allFlags Steps.packed
-    Default.metaCount Default.chroma Default.rounds Default.allChannels Default.defaultSteps
-    Plans.hasOther Plans.meant Plans.meantAllowed Plans.judgeForm Plans.judgeMeant Plans.judgePlan
-    Reading.fieldInside Reading.isChannel Reading.isStep Reading.channelAllowed Reading.judgeChannelField Reading.judgeStepField Reading.judgeField Reading.formOf
-    Records.readAnswer
-    Entry.answer
-accepted = refl
-
--- a sample that a program leaves in the picture slice
+-- sample i that a program leaves in the slice that it fills
 sampleOf : Program → ℕ → ℤ
-sampleOf f i = getD (f bytes pyramid none none) i (pos 0)
+sampleOf f i = getD (f bytes read none none) i (pos 0)
 
--- what the contract says of the first sample and of the third, and what the wrong programs leave there
-samples-are : (sampleOf pictureOf 0 ≡ pos 11) × (sampleOf pictureOf 2 ≡ pos 9)
+-- the coarse count by its definition
+coarse : Count
+coarse xs = coarseCount stoppingSide (steppedAll (stepsOf xs) (channelsOf xs))
+
+record Computed : Type 0 where
+  pub accepted : answer bytes read none none ≡ 0
+  pub picture-0 : sampleOf pictureOf 0 ≡ pos 11
+  pub picture-2 : sampleOf pictureOf 2 ≡ pos 9
+  pub pyramid-1 : sampleOf pyramidOf 1 ≡ pos 3
+  pub copies-0 : sampleOf copies 0 ≡ pos 10
+  pub copies-1 : sampleOf copies 1 ≡ pos 10
+  pub zeroes-0 : sampleOf zeroes 0 ≡ pos 0
+  pub zeroes-1 : sampleOf zeroes 1 ≡ pos 0
+  pub leaves-0 : sampleOf leaves 0 ≡ pos 0
+  pub leaves-1 : sampleOf leaves 1 ≡ pos 0
+  pub first-2 : sampleOf firstOnly 2 ≡ pos 10
+  pub last-0 : sampleOf lastOnly 0 ≡ pos 10
+  pub written-1 : sampleOf firstWritten 1 ≡ pos 10
+  pub read-17 : readAnswer bytes ≡ 0
+  pub read-20 : readAnswer record20by9 ≡ 0
+  pub coarse-17 : coarse bytes ≡ 3
+  pub coarse-20 : coarse record20by9 ≡ 2
+  pub every-20 : everyChannel record20by9 ≡ 4
+  pub before-20 : beforeThePlan record20by9 ≡ 0
+
+computed : Computed
 unfolding
-    bytes pyramid none sampleOf
+    bytes read none sampleOf coarse Buffer.zeros
     Arith.residue Arith.wrap Arith.wrappedAbs Arith.lowestBit
     Tend.opposite Tend.slope Tend.clampBefore Tend.clampAfter Tend.negatedIf Tend.monotone Tend.tendency
-    Pair.difference Pair.firstOf Pair.secondOf Pair.first Pair.second
+    Pair.difference Pair.firstOf Pair.secondOf Pair.first Pair.second Pair.average Pair.residualOf Pair.residual
     Line.nextAverage Line.before Line.sample Uncut.lineOf Uncut.outputAt Uncut.uncut
+    Forward.averageAt Forward.nextAt Forward.prevAt Forward.residualAt Forward.averagesOf Forward.residualsOf
     Channel.isMeta Channel.shiftsAllowed Channel.samples
     Lists.channels Lists.packed Lists.raised Lists.average Lists.residual Lists.stepped
     Questions.countAllowed Questions.channelsAllowed Questions.totalAllowed Questions.rangeAllowed Questions.kindsAlike Questions.placeAllowed Questions.hasSides Questions.shiftsKept Questions.roomLeft Questions.judgeStep
     Steps.flagsOf Steps.flagsAllowed Steps.steps Steps.allFlags Steps.packed
-    Default.metaCount Default.chroma Default.rounds Default.allChannels Default.defaultSteps
+    Default.metaCount Default.chroma Default.rounds Default.allChannels Default.defaultSteps Default.isCoarse Default.coarseCount
     Plans.hasOther Plans.meant Plans.meantAllowed Plans.judgeForm Plans.judgeMeant Plans.judgePlan
     Reading.fieldInside Reading.isChannel Reading.isStep Reading.channelAllowed Reading.judgeChannelField Reading.judgeStepField Reading.judgeField Reading.formOf
     Records.readAnswer
-    Runs.channelBack Runs.backParts Runs.stepBack
-    Entry.answer Entry.pictureOf
-samples-are = (refl, refl)
-
-wrong-are : (sampleOf copies 0 ≡ pos 10) × (sampleOf zeroes 0 ≡ pos 0) × (sampleOf leaves 0 ≡ pos 0) × (sampleOf firstOnly 2 ≡ pos 10)
-unfolding
-    bytes pyramid none sampleOf Buffer.zeros
-    Arith.residue Arith.wrap Arith.wrappedAbs Arith.lowestBit
-    Tend.opposite Tend.slope Tend.clampBefore Tend.clampAfter Tend.negatedIf Tend.monotone Tend.tendency
-    Pair.difference Pair.firstOf Pair.secondOf Pair.first Pair.second
-    Line.nextAverage Line.before Line.sample Uncut.lineOf Uncut.outputAt Uncut.uncut
-    Channel.isMeta Channel.shiftsAllowed Channel.samples
-    Lists.channels Lists.packed Lists.raised Lists.average Lists.residual Lists.stepped
-    Questions.countAllowed Questions.channelsAllowed Questions.totalAllowed Questions.rangeAllowed Questions.kindsAlike Questions.placeAllowed Questions.hasSides Questions.shiftsKept Questions.roomLeft Questions.judgeStep
-    Steps.flagsOf Steps.flagsAllowed Steps.steps Steps.allFlags Steps.packed
-    Default.metaCount Default.chroma Default.rounds Default.allChannels Default.defaultSteps
-    Plans.hasOther Plans.meant Plans.meantAllowed Plans.judgeForm Plans.judgeMeant Plans.judgePlan
-    Reading.fieldInside Reading.isChannel Reading.isStep Reading.channelAllowed Reading.judgeChannelField Reading.judgeStepField Reading.judgeField Reading.formOf
-    Records.readAnswer
-    Runs.channelBack Runs.backParts Runs.stepBack
-wrong-are = (refl, refl, refl, refl)
+    Runs.channelBack Runs.backParts Runs.stepBack Runs.channelAverages Runs.channelResiduals Runs.forwardParts Runs.stepForward
+    Entry.answer Entry.pictureOf Entry.pyramidOf
+computed =
+    record {
+      accepted = refl;
+      picture-0 = refl;
+      picture-2 = refl;
+      pyramid-1 = refl;
+      copies-0 = refl;
+      copies-1 = refl;
+      zeroes-0 = refl;
+      zeroes-1 = refl;
+      leaves-0 = refl;
+      leaves-1 = refl;
+      first-2 = refl;
+      last-0 = refl;
+      written-1 = refl;
+      read-17 = refl;
+      read-20 = refl;
+      coarse-17 = refl;
+      coarse-20 = refl;
+      every-20 = refl;
+      before-20 = refl;
+    }
 
 size : ℤ → ℕ
 size (pos n) = n
 size (negsuc n) = 0
 
--- a program that leaves another number there than the contract says
-differs : (f : Program) (i m n : ℕ) → sampleOf f i ≡ pos m → sampleOf pictureOf i ≡ pos n → (m ≡ n → ⊥) → Refuted f
+-- a program that leaves another number at i than the contract says
+differs : (contract f : Program) (i m n : ℕ) → sampleOf f i ≡ pos m → sampleOf contract i ≡ pos n → (m ≡ n → ⊥) → Refuted contract f
 unfolding size sampleOf
-differs f i m n ef ep h all =
-    h (ap size (sym ef ∙ ap (λ (xs : List ℤ). getD xs i (pos 0)) (all bytes pyramid none none accepted) ∙ ep))
+differs contract f i m n ef ec h all =
+    h (ap size (sym ef ∙ ap (λ (xs : List ℤ). getD xs i (pos 0)) (all bytes read none none (computed .accepted)) ∙ ec))
+
+-- a count that gives another number for a record than the definition
+miscounts : (f : Count) (xs : List ℕ) (m n : ℕ) → readAnswer xs ≡ 0 → f xs ≡ m → coarse xs ≡ n → (m ≡ n → ⊥) → CountRefuted f
+unfolding coarse
+miscounts f xs m n z ef ec h all = h (sym ef ∙ all xs z ∙ ec)
+
+-- one number can't be 3 and 2
+made-up : (n : ℕ) → CountRefuted (λ xs. n)
+unfolding coarse
+made-up n all =
+    let a = all bytes (computed .read-17) ∙ computed .coarse-17 in
+    let b = all record20by9 (computed .read-20) ∙ computed .coarse-20 in
+    absurd (omega arith)
 
 pub wrong : Wrong
-wrong = (
-  differs copies 0 10 11 (wrong-are .0) (samples-are .0) (λ e. absurd (omega arith)),
-  differs zeroes 0 0 11 (wrong-are .1) (samples-are .0) (λ e. absurd (omega arith)),
-  differs leaves 0 0 11 (wrong-are .2) (samples-are .0) (λ e. absurd (omega arith)),
-  differs firstOnly 2 10 9 (wrong-are .3) (samples-are .1) (λ e. absurd (omega arith)),
-  λ all. all bytes pyramid none none accepted,
-)
+wrong =
+    record {
+      picture-copied = differs pictureOf copies 0 10 11 (computed .copies-0) (computed .picture-0) (λ e. absurd (omega arith));
+      picture-zeroed = differs pictureOf zeroes 0 0 11 (computed .zeroes-0) (computed .picture-0) (λ e. absurd (omega arith));
+      picture-left = differs pictureOf leaves 0 0 11 (computed .leaves-0) (computed .picture-0) (λ e. absurd (omega arith));
+      picture-first-only = differs pictureOf firstOnly 2 10 9 (computed .first-2) (computed .picture-2) (λ e. absurd (omega arith));
+      picture-last-only = differs pictureOf lastOnly 0 10 11 (computed .last-0) (computed .picture-0) (λ e. absurd (omega arith));
+      pyramid-copied = differs pyramidOf copies 1 10 3 (computed .copies-1) (computed .pyramid-1) (λ e. absurd (omega arith));
+      pyramid-zeroed = differs pyramidOf zeroes 1 0 3 (computed .zeroes-1) (computed .pyramid-1) (λ e. absurd (omega arith));
+      pyramid-left = differs pyramidOf leaves 1 0 3 (computed .leaves-1) (computed .pyramid-1) (λ e. absurd (omega arith));
+      pyramid-first-only = differs pyramidOf firstWritten 1 10 3 (computed .written-1) (computed .pyramid-1) (λ e. absurd (omega arith));
+      all-refused = λ all. all bytes read none none (computed .accepted);
+      count-made-up = made-up;
+      count-of-all = miscounts everyChannel record20by9 4 2 (computed .read-20) (computed .every-20) (computed .coarse-20) (λ e. absurd (omega arith));
+      count-before-plan = miscounts beforeThePlan record20by9 0 2 (computed .read-20) (computed .before-20) (computed .coarse-20) (λ e. absurd (omega arith));
+    }

@@ -1,37 +1,69 @@
 -- The demands, over the definitions that the C functions' contracts cite: `answer`, `pictureOf`, `pyramidOf` and `workOf` of crate squeeze for
--- `squeeze_rebuild` and `squeeze_write`, `after` of crate tile for `squeeze_tile`. Statements only; proofs/Demands.antt proves them.
+-- `squeeze_rebuild` and `squeeze_write`, `answer` and `after` of crate tile for `squeeze_tile`, `numbersAfter` for `squeeze_grid_rect`, `listed` and
+-- `textAfter` for `squeeze_listing`; and those of `rewrite` and `write_record`. Statements only; proofs/Demands.antt proves them.
 use mathlib.Core.Path.{_≡_}
 use mathlib.Core.List.{List}
 use Prim.Native.Nat.{ℕ}
 use lib.IntN.{ℤ}
+use lib.ListN.{length}
 use Rattle.channel.specs.declared.Channel.{Channel}
+use Rattle.list.specs.declared.ChannelList.{ChannelList}
 use Rattle.list.specs.declared.Step.{Step}
+use Rattle.list.specs.Lists.{channels, total}
 use Rattle.line.specs.Uncut.{Squeeze, Fitting}
 use Rattle.line.specs.Forward.{Samples}
+use Rattle.tile.specs.Call as Tile
+use Rattle.tile.specs.Call.{Call}
 use Rattle.tile.specs.Cut.{Cut, Event, State, Begins, allAllowed, AllRan, AllHold, together}
+use Rattle.plan.specs.declared.Steps.{Steps}
+use Rattle.plan.specs.Steps.{steps}
+use Rattle.plan.specs.Plans.{steppedAll, meant, rewritten}
 use Rattle.plan.specs.Standard.{StandardSteps}
-use Rattle.record.specs.Records.{readAnswer}
+use Rattle.record.specs.Records.{readAnswer, writtenOf, writtenBytes}
+use Rattle.record.specs.Laws.{ReadWrittenLaw, WrittenReadLaw, OneRecord}
+use Rattle.listing.specs.Listing.{listed, textAfter}
 use Rattle.runs.specs.Runs.{layout}
 use Rattle.runs.specs.Unbounded.{RunInDomain, standardRun}
 use Rattle.runs.specs.Claim.{Fills, ExactlyOne}
+use Rattle.squeeze.specs.GridRect as Rect
 use Rattle.squeeze.specs.Entry.{channelsOf, stepsOf, answer, pictureOf, pyramidOf, workOf}
 
--- ---- demand 1: "a refusal gives its number and changes no lent slice"
--- the slice that is read, the slice that is filled and the work slice
-abbrev pub RefusalKeeps : Type 0
-RefusalKeeps = (bytes : List ℕ) (read filled work : List ℤ) → (answer bytes read filled work ≡ 0 → ⊥)
-    → (pictureOf bytes read filled work ≡ filled) × (pyramidOf bytes read filled work ≡ filled) × (workOf bytes read filled work ≡ work)
+-- ---- demand 1: "a refusal gives its number and changes no lent slice", call by call
+pub record RefusalKeeps : Type 0 where
+  -- the slice that is read, the slice that is filled and the work slice
+  pub runs : (bytes : List ℕ) (read filled work : List ℤ) → (answer bytes read filled work ≡ 0 → ⊥)
+      → (pictureOf bytes read filled work ≡ filled) × (pyramidOf bytes read filled work ≡ filled) × (workOf bytes read filled work ≡ work)
+  pub tile : (c : Call) → (Tile.answer c ≡ 0 → ⊥) → Tile.after c ≡ c .out
+  pub rectangle : (c : Channel) (output stored group gx gy : ℕ) (numbers : List ℕ) → (Rect.answer c output stored group gx gy numbers ≡ 0 → ⊥)
+      → Rect.numbersAfter c output stored group gx gy numbers ≡ numbers
+  pub listing : (bytes text : List ℕ) → (listed bytes text .answer ≡ 0 → ⊥) → (listed bytes text .length ≡ 0) × (textAfter bytes text ≡ text)
+  pub record-writer : (l : ChannelList) (s : Steps) (out : List ℕ) → (writtenOf l s out .answer ≡ 0 → ⊥) → writtenBytes l s out ≡ out
 
 -- ---- demand 2: "each equals the Rust's on the domain in 01, and on it equals ISO/IEC 18181-1"
--- the channel list that an accepted record's steps reach
-abbrev pub ListIsStandard : Type 0
-ListIsStandard = (bytes : List ℕ) → readAnswer bytes ≡ 0 → StandardSteps (stepsOf bytes) (channelsOf bytes) (layout (stepsOf bytes) (channelsOf bytes))
+-- the channel list that a plan reaches: what `rewrite` gives, what the listing prints of a record, and the layout of a whole run
+pub record ListIsStandard : Type 0 where
+  pub rewrites : (l : ChannelList) (s : Steps) → rewritten l s .answer ≡ 0
+      → StandardSteps (meant (steps s) (channels l)) (channels l) (channels (rewritten l s .list))
+  pub listed : (bytes : List ℕ) → readAnswer bytes ≡ 0 → StandardSteps (stepsOf bytes) (channelsOf bytes) (steppedAll (stepsOf bytes) (channelsOf bytes))
+  pub laid-out : (bytes : List ℕ) → readAnswer bytes ≡ 0 → layout (stepsOf bytes) (channelsOf bytes) ≡ steppedAll (stepsOf bytes) (channelsOf bytes)
 
 -- the picture, where every sample read or made in any step lies in the domain
 abbrev pub PictureIsStandard : Type 0
 PictureIsStandard = (bytes : List ℕ) (pyramid picture work : List ℤ) → Samples pyramid → answer bytes pyramid picture work ≡ 0
     → RunInDomain (stepsOf bytes) (channelsOf bytes) pyramid
     → pictureOf bytes pyramid picture work ≡ standardRun (stepsOf bytes) (channelsOf bytes) pyramid
+
+-- ---- the channel list and the record
+-- "The sample total stays.": along any list of steps, refused ones included, and in the list that `rewrite` gives
+pub record TotalStays : Type 0 where
+  pub laid-out : (ss : List Step) (cs : List Channel) → total (layout ss cs) ≡ total cs
+  pub rewrites : (l : ChannelList) (s : Steps) → rewritten l s .answer ≡ 0 → total (channels (rewritten l s .list)) ≡ total (channels l)
+
+-- "Reading and writing undo each other", and a list and its steps have one record
+pub record RecordUndone : Type 0 where
+  pub read-written : ReadWrittenLaw
+  pub written-read : WrittenReadLaw
+  pub one-record : OneRecord
 
 -- ---- demand 3, over a whole list of steps
 -- "Take any list of squeeze steps, refused ones included .. exactly one pyramid of the layout reached rebuilds to that picture"
@@ -43,17 +75,19 @@ abbrev pub WriterGivesIt : Type 0
 WriterGivesIt = (bytes : List ℕ) (picture pyramid work : List ℤ) → Samples picture → answer bytes picture pyramid work ≡ 0
     → (one : ExactlyOne (stepsOf bytes) (channelsOf bytes) picture) → pyramidOf bytes picture pyramid work ≡ one .pyramid
 
--- "and the plan run rebuilds from it"
+-- "and the plan run rebuilds from it": of the two slices lent to it only the lengths are asked, and the call is accepted
 abbrev pub WrittenRebuilds : Type 0
 WrittenRebuilds = (bytes : List ℕ) (picture pyramid work picture₂ work₂ : List ℤ) → Samples picture → answer bytes picture pyramid work ≡ 0
-    → answer bytes (pyramidOf bytes picture pyramid work) picture₂ work₂ ≡ 0
-    → pictureOf bytes (pyramidOf bytes picture pyramid work) picture₂ work₂ ≡ picture
+    → length picture₂ ≡ length picture → length work₂ ≡ length picture
+    → (answer bytes (pyramidOf bytes picture pyramid work) picture₂ work₂ ≡ 0)
+    × (pictureOf bytes (pyramidOf bytes picture pyramid work) picture₂ work₂ ≡ picture)
 
 -- and the other way round
 abbrev pub RebuiltWrites : Type 0
 RebuiltWrites = (bytes : List ℕ) (pyramid picture work pyramid₂ work₂ : List ℤ) → Samples pyramid → answer bytes pyramid picture work ≡ 0
-    → answer bytes (pictureOf bytes pyramid picture work) pyramid₂ work₂ ≡ 0
-    → pyramidOf bytes (pictureOf bytes pyramid picture work) pyramid₂ work₂ ≡ pyramid
+    → length pyramid₂ ≡ length pyramid → length work₂ ≡ length pyramid
+    → (answer bytes (pictureOf bytes pyramid picture work) pyramid₂ work₂ ≡ 0)
+    × (pyramidOf bytes (pictureOf bytes pyramid picture work) pyramid₂ work₂ ≡ pyramid)
 
 -- ---- demand 3, over a whole list of tile calls
 abbrev pub TilesTogether : Type 0
@@ -65,6 +99,8 @@ pub record Demands : Type 0 where
   pub refusal-keeps : RefusalKeeps
   pub list-is-standard : ListIsStandard
   pub picture-is-standard : PictureIsStandard
+  pub total-stays : TotalStays
+  pub record-undone : RecordUndone
   pub one-pyramid : OnePyramid
   pub writer-gives-it : WriterGivesIt
   pub written-rebuilds : WrittenRebuilds

@@ -63,8 +63,8 @@ Table =
     × (row 2 (pos 10 ∷ pos 4 ∷ []) 2 (pos 1 ∷ pos 0 ∷ []) ≡ pos 11 ∷ pos 9 ∷ pos 4 ∷ pos 4 ∷ [])
     × (row 2 (pos 10 ∷ pos 4 ∷ []) 1 (pos 1 ∷ []) ≡ pos 11 ∷ pos 9 ∷ pos 4 ∷ [])
     × Gives (pos 7) (negsuc 0) (pos 7) (pos 7) (pos 7) (pos 8)
-    -- "alone": the neighbours of the average are the average itself
-    × Gives (pos 2147483647) (pos 2) (pos 2147483647) (pos 2147483647) (negsuc 2147483647) (pos 2147483646)
+    -- "alone": a row of one average and one residual
+    × (row 1 (pos 2147483647 ∷ []) 1 (pos 2 ∷ []) ≡ negsuc 2147483647 ∷ pos 2147483646 ∷ [])
     × (planOf 8 8 ≡ [])
     × (planOf 8 9 ≡ vertical ∷ [])
     × (planOf 9 9 ≡ vertical ∷ horizontal ∷ [])

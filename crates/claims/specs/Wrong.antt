@@ -1,47 +1,94 @@
--- Programs that must not get through (document 01, "Contract by contract", c): what each would leave in the picture slice. None agrees with the
--- contract of `squeeze_rebuild`. Statements only; proofs/Wrong.antt proves them by one record.
+-- Programs that must not get through (document 01, "Contract by contract", c): what each would leave in the slice that it fills, or print as the
+-- coarse count. None agrees with the contracts of `squeeze_rebuild`, `squeeze_write` and `squeeze_listing`. Statements only; proofs/Wrong.antt
+-- proves them by two records.
 use mathlib.Core.Path.{_≡_}
 use mathlib.Core.List.{List, [], _∷_}
 use Prim.Native.Nat.{ℕ}
 use lib.IntN.{ℤ}
+use lib.ListN.{length}
 use Rattle.channel.specs.declared.Channel.{Channel}
 use Rattle.list.specs.declared.Step.{Step}
+use Rattle.list.specs.Lists.{stepped}
+use Rattle.plan.specs.Default.{stoppingSide, coarseCount}
+use Rattle.plan.specs.Plans.{steppedAll}
+use Rattle.record.specs.Records.{readAnswer}
 use Rattle.buffer.specs.Buffer.{zeros}
-use Rattle.runs.specs.Runs.{stepBack}
-use Rattle.squeeze.specs.Entry.{channelsOf, stepsOf, answer, pictureOf}
+use Rattle.runs.specs.Runs.{stepBack, stepForward}
+use Rattle.squeeze.specs.Entry.{channelsOf, stepsOf, answer, pictureOf, pyramidOf}
 
--- the picture slice afterwards, from the record, the pyramid and the slices as they came
+-- the filled slice afterwards, from the record, the slice that is read and the slices as they came
 abbrev pub Program : Type 0
 Program = List ℕ → List ℤ → List ℤ → List ℤ → List ℤ
 
--- "a copy of pyramid to picture"
+-- a program does not do what a call's contract says
+abbrev pub Refuted : Program → Program → Type 0
+Refuted contract f = ((bytes : List ℕ) (read filled work : List ℤ) → answer bytes read filled work ≡ 0
+    → f bytes read filled work ≡ contract bytes read filled work) → ⊥
+
+-- "a copy of pyramid to picture", and of picture to pyramid
 abbrev pub copies : Program
-copies bytes pyramid picture work = pyramid
+copies bytes read filled work = read
 
 -- "an all-zero picture"
 abbrev pub zeroes : Program
-zeroes bytes pyramid picture work = zeros picture
+zeroes bytes read filled work = zeros filled
 
 -- "an untouched slice"
 abbrev pub leaves : Program
-leaves bytes pyramid picture work = picture
+leaves bytes read filled work = filled
 
--- "a run that takes the first step only and copies the rest"
-abbrev pub firstOf : List Step → List Channel → List ℤ → List ℤ
-firstOf [] cs pyramid = pyramid
-firstOf (s ∷ ss) cs pyramid = stepBack s cs pyramid
+-- "a run that takes the first step only and copies the rest": the plan's first step, back and forward
+abbrev pub firstBy : (Step → List Channel → List ℤ → List ℤ) → List Step → List Channel → List ℤ → List ℤ
+firstBy f [] cs xs = xs
+firstBy f (s ∷ ss) cs xs = f s cs xs
 
 abbrev pub firstOnly : Program
-firstOnly bytes pyramid picture work = firstOf (stepsOf bytes) (channelsOf bytes) pyramid
+firstOnly bytes read filled work = firstBy stepBack (stepsOf bytes) (channelsOf bytes) read
 
--- a program does not do what the contract says
-abbrev pub Refuted : Program → Type 0
-Refuted f = ((bytes : List ℕ) (pyramid picture work : List ℤ) → answer bytes pyramid picture work ≡ 0
-    → f bytes pyramid picture work ≡ pictureOf bytes pyramid picture work) → ⊥
+abbrev pub firstWritten : Program
+firstWritten bytes read filled work = firstBy stepForward (stepsOf bytes) (channelsOf bytes) read
+
+-- and the plan's last step, which rebuilding takes first
+abbrev pub lastOf : List Step → List Channel → List ℤ → List ℤ
+lastOf [] cs xs = xs
+lastOf (s ∷ []) cs xs = stepBack s cs xs
+lastOf (s ∷ t ∷ ss) cs xs = lastOf (t ∷ ss) (stepped s cs) xs
+
+abbrev pub lastOnly : Program
+lastOnly bytes read filled work = lastOf (stepsOf bytes) (channelsOf bytes) read
 
 -- "a refusal of every record"
 abbrev pub RefusesAll : Type 0
 RefusesAll = (bytes : List ℕ) (read filled work : List ℤ) → answer bytes read filled work ≡ 0 → ⊥
 
-abbrev pub Wrong : Type 0
-Wrong = Refuted copies × Refuted zeroes × Refuted leaves × Refuted firstOnly × (RefusesAll → ⊥)
+-- "a made-up coarse count": a count of a record's channels that is not the definition's
+abbrev pub Count : Type 0
+Count = List ℕ → ℕ
+
+abbrev pub CountRefuted : Count → Type 0
+CountRefuted f = ((bytes : List ℕ) → readAnswer bytes ≡ 0 → f bytes ≡ coarseCount stoppingSide (steppedAll (stepsOf bytes) (channelsOf bytes))) → ⊥
+
+-- one number for every record, every channel of the rewritten list, and the count of the list before the plan
+abbrev pub always : ℕ → Count
+always n bytes = n
+
+abbrev pub everyChannel : Count
+everyChannel bytes = length (steppedAll (stepsOf bytes) (channelsOf bytes))
+
+abbrev pub beforeThePlan : Count
+beforeThePlan bytes = coarseCount stoppingSide (channelsOf bytes)
+
+pub record Wrong : Type 0 where
+  pub picture-copied : Refuted pictureOf copies
+  pub picture-zeroed : Refuted pictureOf zeroes
+  pub picture-left : Refuted pictureOf leaves
+  pub picture-first-only : Refuted pictureOf firstOnly
+  pub picture-last-only : Refuted pictureOf lastOnly
+  pub pyramid-copied : Refuted pyramidOf copies
+  pub pyramid-zeroed : Refuted pyramidOf zeroes
+  pub pyramid-left : Refuted pyramidOf leaves
+  pub pyramid-first-only : Refuted pyramidOf firstWritten
+  pub all-refused : RefusesAll → ⊥
+  pub count-made-up : (n : ℕ) → CountRefuted (always n)
+  pub count-of-all : CountRefuted everyChannel
+  pub count-before-plan : CountRefuted beforeThePlan
