@@ -2,11 +2,10 @@
 -- Assumes nothing.
 use mathlib.Core.Path.{_≡_, refl, sym, ap, _∙_}
 use mathlib.Core.Bool.{true, false}
-use mathlib.Core.Logic.{_⊎_, inl, inr}
 use mathlib.Core.List.{List}
 use Prim.Native.Nat.{ℕ, suc, _+_, _<_, _≤_}
-use native.Mathlib.Nat.{eq-or-lt-of-le}
 use native.Mathlib.Omega.{arith}
+use borrow.Author.Count.{below-more}
 use lib.IntN.{ℤ, pos}
 use lib.ListN.{length, getD, set}
 use lib.Seq.{getD-set-same, getD-set-other}
@@ -28,23 +27,18 @@ module _ (f : ℕ → ℤ) (s : List ℤ) (from i : ℕ) where
   holds-none h k a b = absurd (omega arith)
 
   pub holds-more : Holds f s from i → getD s i (pos 0) ≡ f i → Holds f s from (i + 1)
-  holds-more t e k a b = by (eq-or-lt-of-le {n = k} {m = i} (omega arith))
-    where
-      by : (k ≡ i) ⊎ (k < i) → getD s k (pos 0) ≡ f k
-      by (inl d) = rw d e
-      by (inr h) = t k a h
-
-  -- what stands behind a store
-  pub holds-set : (v : ℤ) → Holds f s from i → i < length s → v ≡ f i → Holds f (set s i v) from (i + 1)
-  holds-set v t h e k a b = by (eq-or-lt-of-le {n = k} {m = i} (omega arith))
-    where
-      by : (k ≡ i) ⊎ (k < i) → getD (set s i v) k (pos 0) ≡ f k
-      by (inl d) = rw (d, getD-set-same s i v (pos 0) h) e
-      by (inr l) = rw (getD-set-other s i k v (pos 0) (λ d. absurd (omega arith))) (t k a l)
+  holds-more t e k a b = below-more (λ (k : ℕ). from ≤ k → getD s k (pos 0) ≡ f k) i (λ k b a. t k a b) (λ a. e) k b a
 
   -- a sample that differs
   pub differs : (to : ℕ) (v : ℤ) → v ≡ f i → from ≤ i → i < to → (ofZ w32 (getD s i (pos 0)) ≡ ofZ w32 v → ⊥) → Holds f s from to → ⊥
   differs to v e a b other t = other (ap (ofZ w32) (t i a b ∙ sym e))
+
+-- after a store
+pub holds-set : (f : ℕ → ℤ) (s : List ℤ) (from i : ℕ) (v : ℤ) → Holds f s from i → i < length s → v ≡ f i → Holds f (set s i v) from (i + 1)
+holds-set f s from i v t h e =
+    holds-more f (set s i v) from i
+    (λ k a b. rw (getD-set-other s i k v (pos 0) (λ d. absurd (omega arith))) (t k a b))
+    (rw (getD-set-same s i v (pos 0) h) e)
 
 pub alike : (x v : ℤ) → mag x < 2147483648 → mag v < 2147483648 → ofZ w32 x ≡ ofZ w32 v → x ≡ v
 alike x v fx fv e = sym (back32 x fx) ∙ ap (toZ w32) e ∙ back32 v fv
