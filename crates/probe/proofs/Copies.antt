@@ -9,7 +9,7 @@ use lib.IntN.{ℤ, pos}
 use lib.ListN.{length, getD, set, take, drop, length-drop, drop-of-length-le}
 use lib.Seq.{paste, paste-suc, getD-drop, take-all}
 use borrow.Author.Tests.{le-leb, lt-leb}
-use Rattle.block.specs.Block.{blockAt, withBlock}
+use Rattle.probe.specs.Probe.{blockAt, withBlock}
 
 -- ---- out of s, from `at` on, into b
 pub load-more : (b b₀ s : List ℤ) (at i : ℕ) → b ≡ paste b₀ 0 (drop at s) i → length b₀ ≡ 8 → i < 8 → at + 8 ≤ length s

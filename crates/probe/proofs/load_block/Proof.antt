@@ -8,10 +8,10 @@ use lib.IntN.{pos}
 use lib.ListN.{length, getD, drop}
 use lib.Seq.{paste, paste-zero}
 use Rattle.arith32.proofs.Whole.{back32}
-use Rattle.block.specs.Block.{blockAt}
-use Rattle.block.proofs.Copies.{load-more, load-all}
-use Rattle.block.proofs.load_block.Statement.{statement}
-use Rattle.block.proofs.load_block.Tie as tie
+use Rattle.probe.specs.Probe.{blockAt}
+use Rattle.probe.proofs.Copies.{load-more, load-all}
+use Rattle.probe.proofs.load_block.Statement.{statement}
+use Rattle.probe.proofs.load_block.Tie as tie
 
 abbrev Inv-loop : tie.InvT-loop
 Inv-loop s at b₀ i₀ b i = (b ≡ paste b₀ 0 (drop at s) i) × (length b₀ ≡ 8) × (i ≤ 8) × (at + 8 ≤ length s)

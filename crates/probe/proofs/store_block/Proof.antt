@@ -8,10 +8,10 @@ use lib.IntN.{pos}
 use lib.ListN.{length, getD, length-set}
 use lib.Seq.{paste, paste-zero}
 use Rattle.arith32.proofs.Whole.{back32}
-use Rattle.block.specs.Block.{withBlock}
-use Rattle.block.proofs.Copies.{store-more, store-all}
-use Rattle.block.proofs.store_block.Statement.{statement}
-use Rattle.block.proofs.store_block.Tie as tie
+use Rattle.probe.specs.Probe.{withBlock}
+use Rattle.probe.proofs.Copies.{store-more, store-all}
+use Rattle.probe.proofs.store_block.Statement.{statement}
+use Rattle.probe.proofs.store_block.Tie as tie
 
 abbrev Inv-loop : tie.InvT-loop
 Inv-loop s₀ at b i₀ s i =
