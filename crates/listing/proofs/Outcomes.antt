@@ -6,7 +6,7 @@ use Prim.Native.Nat.{ℕ, _<_, _≤_}
 use native.Mathlib.Nat.{zero-add}
 use native.Mathlib.Omega.{arith}
 use lib.Dec.{eqb}
-use lib.ListN.{length}
+use lib.ListN.{length, take}
 use borrow.Author.Tests.{eqb-true, ne-eqb, le-leb, lt-leb}
 use Rattle.channel.specs.declared.Channel.{Channel}
 use Rattle.list.specs.declared.ChannelList.{ChannelList}
@@ -32,7 +32,7 @@ use Rattle.record.specs.Records.{readAnswer, readOf}
 use Rattle.plan.proofs.Judged.{plan-answer}
 use Rattle.record.proofs.Readings.{read-answer, read-zero, read-judged, list-back, steps-back}
 use Rattle.listing.specs.Text.{numbered, refusedWord}
-use Rattle.listing.specs.Listing.{planText, listing, listed, textAfter}
+use Rattle.listing.specs.Listing.{planText, listing, listed, textAfter, judgedBytes, printed, printedOver}
 use Rattle.listing.specs.Putting.{Put}
 use Rattle.listing.proofs.Held.{steps-count}
 
@@ -75,3 +75,9 @@ module _ (bytes text : List ℕ) (n : ℕ) (en : n ≡ length (listing bytes)) w
   listed-whole h after end p =
       let t = le-leb (length (listing bytes)) (length text) (omega arith) in
       (rw (t, en), rw t (p .so ∙ rw zero-add))
+
+-- ---- the program's text: `judged` is what was listed
+module _ (input judged text after : List ℕ) (end : ℕ) (is : judged ≡ take judgedBytes input) (p : Put (listing judged) 0 text after end) where
+  pub printed-so : (end ≡ length (printed input)) × (after ≡ printedOver input text)
+  unfolding printed printedOver
+  printed-so = rw (← is) (omega (arith, p .ends), p .so ∙ rw zero-add)

@@ -4,7 +4,7 @@ use mathlib.Core.Bool.{cond}
 use mathlib.Core.List.{List, _++_}
 use Prim.Native.Nat.{ℕ}
 use lib.Dec.{eqb, leb}
-use lib.ListN.{length, drop}
+use lib.ListN.{length, take, drop}
 use Rattle.numbers.specs.Numbers.{refusedLength}
 use Rattle.channel.specs.declared.Channel.{Channel}
 use Rattle.list.specs.declared.Step.{Step}
@@ -42,3 +42,14 @@ listed bytes text =
 unfoldable pub textAfter : List ℕ → List ℕ → List ℕ
 textAfter bytes text =
     cond (leb (length (listing bytes)) (length text)) (listing bytes ++ drop (length (listing bytes)) text) text
+
+-- ---- the program: "judges the first 4,096 bytes of standard input"
+abbrev pub judgedBytes : ℕ
+judgedBytes = 4096
+
+-- what it prints for its input, and a text that had room for it afterwards
+unfoldable pub printed : List ℕ → List ℕ
+printed input = listing (take judgedBytes input)
+
+unfoldable pub printedOver : List ℕ → List ℕ → List ℕ
+printedOver input text = printed input ++ drop (length (printed input)) text
