@@ -34,9 +34,7 @@ fn put_word(word: &[u8], at: usize, text: &mut [u8]) -> usize
     requires { ⌜ at + length (now word) ≤ length (now text) ⌝ }
     ensures { λ r. ⌜ Put (now (word .entry)) at (now (text .entry)) (now (text .exit)) r ⌝ }
 {
-    for k in 0..word.len() {
-        text[at + k] = word[k];
-    }
+    record::put_bytes(word, at, text);
     at + word.len()
 }
 

@@ -286,13 +286,18 @@ fn step_field(step: Step) -> [u8; STEP_SIZE]
     ]
 }
 
-// A field's bytes into `out` from `at` on.
-fn store(field: &[u8], at: usize, out: &mut [u8])
-    requires { ⌜ at + length (now field) ≤ length (now out) ⌝ }
-    ensures { λ _. ⌜ now (out .exit) ≡ Bytes.placed (now (out .entry)) at (now (field .entry)) ⌝ }
+// `bytes` over `out` from `at` on where it has room for them, else nothing.
+pub fn put_bytes(bytes: &[u8], at: usize, out: &mut [u8])
+    ensures { λ _. ⌜ now (out .exit) ≡ Bytes.putBytes (now (out .entry)) at (now (bytes .entry)) ⌝ }
 {
-    for k in 0..field.len() {
-        out[at + k] = field[k];
+    if out.len() < at {
+        return;
+    }
+    if out.len() - at < bytes.len() {
+        return;
+    }
+    for k in 0..bytes.len() {
+        out[at + k] = bytes[k];
     }
 }
 
@@ -305,7 +310,7 @@ fn write_channels(list: ChannelList, out: &mut [u8])
     let mut at = 0;
     for k in 0..count {
         let field = channel_field(list.channel(k));
-        store(&field, at, out);
+        put_bytes(&field, at, out);
         at += CHANNEL_SIZE;
     }
 }
@@ -319,7 +324,7 @@ fn write_steps(steps: Steps, start: usize, out: &mut [u8])
     let mut at = start;
     for k in 0..count {
         let field = step_field(steps.step(k));
-        store(&field, at, out);
+        put_bytes(&field, at, out);
         at += STEP_SIZE;
     }
 }
