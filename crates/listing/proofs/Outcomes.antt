@@ -8,6 +8,7 @@ use native.Mathlib.Omega.{arith}
 use lib.Dec.{eqb}
 use lib.ListN.{length, take}
 use borrow.Author.Tests.{eqb-true, ne-eqb, le-leb, lt-leb}
+use Rattle.numbers.specs.Numbers.{refusedLength}
 use Rattle.channel.specs.declared.Channel.{Channel}
 use Rattle.list.specs.declared.ChannelList.{ChannelList}
 use Rattle.list.specs.declared.Step.{Step}
@@ -63,7 +64,7 @@ module _ (bytes : List ℕ) (f : Record) (e : f ≡ readOf bytes) where
 
 -- ---- the slice: the listing's length is n
 module _ (bytes text : List ℕ) (n : ℕ) (en : n ≡ length (listing bytes)) where
-  pub listed-short : length text < n → (record { answer = 12; length = 0 } ≡ listed bytes text) × (text ≡ textAfter bytes text)
+  pub listed-short : length text < n → (record { answer = refusedLength; length = 0 } ≡ listed bytes text) × (text ≡ textAfter bytes text)
   unfolding listed textAfter
   listed-short h =
       let t = lt-leb (length (listing bytes)) (length text) (omega arith) in

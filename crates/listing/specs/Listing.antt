@@ -9,9 +9,7 @@ use Rattle.numbers.specs.Numbers.{refusedLength}
 use Rattle.channel.specs.declared.Channel.{Channel}
 use Rattle.list.specs.declared.Step.{Step}
 use Rattle.plan.specs.Default.{stoppingSide, coarseCount}
-use Rattle.plan.specs.Plans.{meant, steppedAll}
-use Rattle.record.specs.Reading.{formOf}
-use Rattle.record.specs.Records.{readAnswer}
+use Rattle.record.specs.Records.{readAnswer, stepsOf, reachedOf}
 use Rattle.listing.specs.declared.Listed.{Listed}
 use Rattle.listing.specs.Text.{stepsWord, channelsWord, coarseWord, refusedWord, numbered, stepLines, channelLines}
 
@@ -23,13 +21,10 @@ planText ss cs =
     ++ (numbered channelsWord (length cs)
     ++ (channelLines cs ++ numbered coarseWord (coarseCount stoppingSide cs))))
 
-abbrev pub stepsOf : List ℕ → List Step
-stepsOf bytes = meant (formOf bytes .steps) (formOf bytes .channels)
-
 unfoldable pub listing : List ℕ → List ℕ
 listing bytes =
     cond (eqb (readAnswer bytes) 0)
-    (planText (stepsOf bytes) (steppedAll (stepsOf bytes) (formOf bytes .channels)))
+    (planText (stepsOf bytes) (reachedOf bytes))
     (numbered refusedWord (readAnswer bytes))
 
 -- the text over the front of a slice that has room for it (question 14: 12), and the rest as it was

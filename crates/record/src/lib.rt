@@ -91,9 +91,9 @@ fn is_step(bytes: &[u8]) -> bool
 }
 
 // A field's channel.
-fn channel_of(bytes: &[u8]) -> Channel
+fn field_channel(bytes: &[u8]) -> Channel
     requires { ⌜ Bytes.channelSize ≤ length (now bytes) ⌝ }
-    ensures { λ r. ⌜ r ≡ Reading.channelOf (now (bytes .entry)) ⌝ }
+    ensures { λ r. ⌜ r ≡ Reading.fieldChannel (now (bytes .entry)) ⌝ }
 {
     Channel {
         width: word(bytes[3], bytes[4]),
@@ -112,7 +112,7 @@ fn judge_channel(bytes: &[u8], channels: usize, metas: bool) -> u32
     if ChannelList::MAX_CHANNELS <= channels {
         return REFUSED_COUNT;
     }
-    let c = channel_of(bytes);
+    let c = field_channel(bytes);
     if !(c.has_shifts_allowed() & (!c.is_meta() | metas)) {
         return REFUSED_FORM;
     }
@@ -168,7 +168,7 @@ fn with_channel(list: ChannelList, c: Channel) -> ChannelList
 // The steps with a field's step, which passes questions 3 and 4.
 fn with_step(steps: Steps, bytes: &[u8]) -> Steps
     requires { ⌜ (Bytes.stepSize ≤ length (now bytes)) × (Reading.judgeStepField (now bytes) (steps .count) ≡ 0) ⌝ }
-    ensures { λ r. ⌜ r ≡ pushed steps (Reading.stepOf (now (bytes .entry))) ⌝ }
+    ensures { λ r. ⌜ r ≡ pushed steps (Reading.fieldStep (now (bytes .entry))) ⌝ }
 {
     let k = steps.count;
     let mut next = steps;
@@ -209,7 +209,7 @@ fn read_form(bytes: &[u8]) -> Record
             steps = with_step(steps, field);
             at += STEP_SIZE;
         } else {
-            let c = channel_of(field);
+            let c = field_channel(field);
             metas = c.is_meta();
             list = with_channel(list, c);
             at += CHANNEL_SIZE;
