@@ -22,14 +22,14 @@ use Rattle.plan.proofs.Runs.{none-refused}
 use Rattle.plan.proofs.Judged.{meant-judged}
 use Rattle.plan.proofs.AsStandard.{list-standard}
 use Rattle.record.specs.declared.Record.{Record}
-use Rattle.record.specs.Records.{readAnswer, readOf}
+use Rattle.record.specs.Records.{readAnswer, readOf, channelsOf, stepsOf}
 use Rattle.record.proofs.Readings.{read-answer, read-judged, list-back, steps-back}
 use Rattle.runs.specs.Runs.{isTaken, layout}
 use Rattle.runs.specs.Claim.{Fills, ExactlyOne}
 use Rattle.runs.proofs.Whole.{squeezed-fills, squeezed-rebuilds, rebuilt-squeezes, exactly-one}
 use Rattle.runs.proofs.AsStandard.{run-standard}
 use Rattle.squeeze.specs.Entry as E
-use Rattle.squeeze.specs.Entry.{channelsOf, stepsOf, fits, answer, pictureOf, pyramidOf, workOf}
+use Rattle.squeeze.specs.Entry.{fits, answer, pictureOf, pyramidOf, workOf}
 use Rattle.claims.specs.Demands.{RefusalKeeps, ListIsStandard, PictureIsStandard, WriterGivesIt, WrittenRebuilds, RebuiltWrites, TilesTogether, Demands}
 
 -- ---- the layout: refused steps or not, the sample total stays; accepted steps reach the list that `steppedAll` says

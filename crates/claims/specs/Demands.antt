@@ -10,11 +10,11 @@ use Rattle.line.specs.Uncut.{Squeeze, Fitting}
 use Rattle.line.specs.Forward.{Samples}
 use Rattle.tile.specs.Cut.{Cut, Event, State, Begins, allAllowed, AllRan, AllHold, together}
 use Rattle.plan.specs.Standard.{StandardSteps}
-use Rattle.record.specs.Records.{readAnswer}
+use Rattle.record.specs.Records.{readAnswer, channelsOf, stepsOf}
 use Rattle.runs.specs.Runs.{layout}
 use Rattle.runs.specs.Unbounded.{RunInDomain, standardRun}
 use Rattle.runs.specs.Claim.{Fills, ExactlyOne}
-use Rattle.squeeze.specs.Entry.{channelsOf, stepsOf, answer, pictureOf, pyramidOf, workOf}
+use Rattle.squeeze.specs.Entry.{answer, pictureOf, pyramidOf, workOf}
 
 -- ---- demand 1: "a refusal gives its number and changes no lent slice"
 -- the slice that is read, the slice that is filled and the work slice

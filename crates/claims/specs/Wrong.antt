@@ -6,9 +6,10 @@ use Prim.Native.Nat.{ℕ}
 use lib.IntN.{ℤ}
 use Rattle.channel.specs.declared.Channel.{Channel}
 use Rattle.list.specs.declared.Step.{Step}
+use Rattle.record.specs.Records.{channelsOf, stepsOf}
 use Rattle.buffer.specs.Buffer.{zeros}
 use Rattle.runs.specs.Runs.{stepBack}
-use Rattle.squeeze.specs.Entry.{channelsOf, stepsOf, answer, pictureOf}
+use Rattle.squeeze.specs.Entry.{answer, pictureOf}
 
 -- the picture slice afterwards, from the record, the pyramid and the slices as they came
 abbrev pub Program : Type 0

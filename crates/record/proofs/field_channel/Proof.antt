@@ -1,7 +1,7 @@
--- `channel_of` meets its contract: its two calls give the sides. Assumes nothing.
+-- `field_channel` meets its contract: its two calls give the sides. Assumes nothing.
 use borrow.Author.Needs.{needs}
-use Rattle.record.proofs.channel_of.Statement.{statement}
-use Rattle.record.proofs.channel_of.Tie as tie
+use Rattle.record.proofs.field_channel.Statement.{statement}
+use Rattle.record.proofs.field_channel.Tie as tie
 
 shared-slice-read-word : tie.Need-shared-slice-read-word
 shared-slice-read-word c = search needs
@@ -30,8 +30,8 @@ shared-slice-read-t15 c = search needs
 returns : tie.Need-returns
 returns c = let q = c .before .before in rw (q .before .before .before .word .ensures, q .word2 .ensures)
 
-pub channel-of-spec : {M : Type 1} → statement M
-channel-of-spec =
+pub field-channel-spec : {M : Type 1} → statement M
+field-channel-spec =
     tie.close
     (tie.spec
     shared-slice-read-word
