@@ -1,16 +1,17 @@
 // Replays records (tests/records.py made `stdin`): each with the listing that
-// document 01 asks for, and, where it is accepted, written back. Every byte of
-// the text, of the record and of the room around them is compared, and each call
-// is made with a slice that is one byte short too. Prints, for each kind of
-// case, how many there were and how many came out right.
+// document 01 asks for, and, where it is accepted, written back; and inputs of
+// the program squeeze-list, each with what it prints. Every byte of the text, of
+// the record and of the room around them is compared, and each call that may be
+// short of room is made with a slice that is one byte short too. Prints, for each
+// kind of case, how many there were and how many came out right.
 use listing::LISTING_ROOM;
 use numbers::REFUSED_LENGTH;
 use replay::read_case;
 use replay::read_word;
 use replay::say;
 
-// Room for a record, and for what is written with something around it.
-const RECORD_ROOM: usize = 6144;
+// Room for a record or an input.
+const INPUT_ROOM: usize = 10_240;
 
 // What stands in a room where nothing was written.
 const MARK: u8 = 0xa5;
@@ -64,19 +65,30 @@ fn writes_back(bytes: &[u8]) -> bool {
     refused & (written.answer == 0) & (written.length == n) & holds(&room, bytes)
 }
 
-fn agrees(bytes: &[u8], text: &[u8]) -> bool {
-    lists(bytes, text) & writes_back(bytes)
+// Whether `text` is what the program prints for an input.
+fn prints(input: &[u8], text: &[u8]) -> bool {
+    let mut room = [MARK; LISTING_ROOM];
+    let length = listing::list_input(input, &mut room);
+    (length == text.len()) & holds(&room, text)
+}
+
+fn agrees(is_record: bool, bytes: &[u8], text: &[u8]) -> bool {
+    if is_record {
+        lists(bytes, text) & writes_back(bytes)
+    } else {
+        prints(bytes, text)
+    }
 }
 
 // Replays the next cases of standard input; how many are right.
-fn replay(cases: u32) -> u64 {
-    let mut bytes = [0u8; RECORD_ROOM];
+fn replay(cases: u32, are_records: bool) -> u64 {
+    let mut bytes = [0u8; INPUT_ROOM];
     let mut text = [0u8; LISTING_ROOM];
     let mut right = 0u64;
     for _ in 0..cases {
         let n = read_case(&mut bytes);
         let m = read_case(&mut text);
-        if agrees(&bytes[0..n], &text[0..m]) {
+        if agrees(are_records, &bytes[0..n], &text[0..m]) {
             right += 1;
         }
     }
@@ -84,19 +96,20 @@ fn replay(cases: u32) -> u64 {
 }
 
 // Replays the cases of the next kind and says how many are right.
-fn kind(name: &[u8]) {
+fn kind(name: &[u8], are_records: bool) {
     let cases = read_word();
-    say(name, cases as u64, replay(cases));
+    say(name, cases as u64, replay(cases, are_records));
 }
 
 fn main() {
-    kind(b"printed ");
-    kind(b"cuts ");
-    kind(b"refusals ");
-    kind(b"order ");
-    kind(b"limits ");
-    kind(b"sizes ");
-    kind(b"metas ");
-    kind(b"plans ");
-    kind(b"bytes ");
+    kind(b"printed ", true);
+    kind(b"cuts ", true);
+    kind(b"refusals ", true);
+    kind(b"order ", true);
+    kind(b"limits ", true);
+    kind(b"sizes ", true);
+    kind(b"metas ", true);
+    kind(b"plans ", true);
+    kind(b"bytes ", true);
+    kind(b"inputs ", false);
 }

@@ -9,10 +9,10 @@ use Rattle.record_test.proofs.replay.Statement.{statement}
 use Rattle.record_test.proofs.replay.Tie as tie
 
 abbrev Inv-loop : tie.InvT-loop
-Inv-loop cases bytes₀ text₀ right₀ counter₀ bytes text right counter = (right ≤ counter) × (counter ≤ cases) × (length bytes ≡ 6144) × (length text ≡ 8192)
+Inv-loop cases are-records bytes₀ text₀ right₀ counter₀ bytes text right counter = (right ≤ counter) × (counter ≤ cases) × (length bytes ≡ 10240) × (length text ≡ 8192)
 
 abbrev μ-loop : tie.MeasureT-loop
-μ-loop cases bytes₀ text₀ right₀ counter₀ bytes text right counter = cases - counter
+μ-loop cases are-records bytes₀ text₀ right₀ counter₀ bytes text right counter = cases - counter
 
 loop-holds : tie.Need-loop-holds Inv-loop μ-loop
 loop-holds c = search needs
