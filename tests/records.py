@@ -1,5 +1,6 @@
 #!/usr/bin/env python3
-"""Makes crates/record_test/stdin: records, each with the listing that document 01 asks for.
+"""Makes crates/record_test/stdin: records, each with the listing that document 01 asks for, and inputs of the program
+squeeze-list, each with what it prints.
 
 usage: tests/records.py > crates/record_test/stdin
 
@@ -7,8 +8,8 @@ The rules are those of rules.py, written from document 01 alone: a record read f
 order, the default plan and a step on a list; the coarse count is here. The record that the document prints is held
 against its text first.
 
-The stream has for each kind of KINDS the number of its cases and the cases. A case is the number of a record's bytes,
-the record, the number of its text's bytes and the text. A number has four bytes, least byte first. The number of cases
+The stream has for each kind of KINDS the number of its cases and the cases. A case is the number of a record's or an
+input's bytes, these bytes, the number of its text's bytes and the text. A number has four bytes, least byte first. The number of cases
 of each kind goes to standard error.
 """
 import struct
@@ -16,10 +17,12 @@ import sys
 
 from rules import STOP, Refused, channel, field, is_meta, layouts, meaning, meta
 
-KINDS = {kind: [] for kind in ['printed', 'cuts', 'refusals', 'order', 'limits', 'sizes', 'metas', 'plans', 'bytes']}
+KINDS = {kind: [] for kind in ['printed', 'cuts', 'refusals', 'order', 'limits', 'sizes', 'metas', 'plans', 'bytes', 'inputs']}
 
 
-# The program squeeze-list.
+# The program squeeze-list: "judges the first 4,096 bytes of standard input".
+JUDGED = 4096
+
 
 def text(channels, steps):
     lines = [f'steps {len(steps)}']
@@ -42,7 +45,7 @@ def listing(record):
 
 def case(kind, record, refusal=None):
     """`refusal`, where it is given, is what the case is there to show; 0 is none."""
-    expected = listing(record)
+    expected = listing(record[:JUDGED] if kind == 'inputs' else record)
     if refusal is not None:
         assert expected.startswith('steps ') if refusal == 0 else expected == f'refused {refusal}\n', (kind, expected)
     KINDS[kind].append((record, expected.encode()))
@@ -202,8 +205,35 @@ def byte_values():
             case('bytes', PRINTED + step_bytes[:at] + bytes([value]) + step_bytes[at + 1:])
 
 
+# Inputs about and past the bytes that are judged: an accepted record alone and with more after it, and one field that
+# ends before, at or past the last byte judged. Uncut, a field that ends past it would be refused with 2.
+
+def long_field(length, record=b''):
+    """The record and a field of another form, `length` bytes in all."""
+    body = length - len(record) - 3
+    return record + struct.pack('<BH', 1, body) + bytes(body)
+
+
+def inputs():
+    longest = channel(65535, 1, 10, 10) * 192 + b''.join(field(1, 100 + k, 1) for k in range(64))
+    for record in (PRINTED, LONG[:27], longest):
+        case('inputs', record, 0)
+    for start, refusal in ((b'', 3), (b'\x00', 1), (b'\x01', 1), (PRINTED[:-1], 1), (PRINTED + b'\x01', 1)):
+        case('inputs', start, refusal)
+    for length in (JUDGED - 1, JUDGED, JUDGED + 1):
+        case('inputs', long_field(length), 2 if length <= JUDGED else 1)
+        case('inputs', long_field(length, PRINTED), 2 if length <= JUDGED else 1)
+        case('inputs', PRINTED + b'\xa7' * (length - len(PRINTED)), 1)
+    case('inputs', long_field(JUDGED)[:-1], 1)
+    case('inputs', long_field(JUDGED) + b'\x01', 2)
+    case('inputs', longest + bytes(6000 - len(longest)), 2)
+    case('inputs', long_field(6000), 1)
+    case('inputs', (channel(1, 1) * 1200)[:10000], 3)
+    case('inputs', long_field(10000, PRINTED), 1)
+
+
 if __name__ == '__main__':
-    for make in (printed, cuts, refusals, order, limits, sizes, metas, plans, byte_values):
+    for make in (printed, cuts, refusals, order, limits, sizes, metas, plans, byte_values, inputs):
         make()
     out = sys.stdout.buffer
     for kind, cases in KINDS.items():

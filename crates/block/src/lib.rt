@@ -1,9 +1,8 @@
 // The block of eight (document 01, "Tiles"; it stands for the Rust's
 // `SimdDescriptor` vectors): four blocks of eight neighbouring samples by
-// value, an array of two blocks out, each lane the pair; and a block taken out
-// of a slice and put into one. Total.
+// value, an array of two blocks out, each lane the pair. Total.
 ghost use mathlib.Core.Path.{_≡_};
-ghost use Rattle.block.specs.Block.{blockAt, unsqueezed, withBlock};
+ghost use Rattle.block.specs.Block.{unsqueezed};
 use pair::unsqueeze_lane;
 
 pub fn unsqueeze_block(
@@ -24,36 +23,4 @@ pub fn unsqueeze_block(
         seconds[i] = second;
     }
     [firsts, seconds]
-}
-
-// The eight samples from `at` on; zeros where `s` has fewer.
-pub fn load_block(s: &[i32], at: usize) -> [i32; 8]
-    ensures { λ r. ⌜ r ≡ blockAt (now (s .entry)) at ⌝ }
-{
-    let mut b = [0i32; 8];
-    if s.len() < at {
-        return b;
-    }
-    if s.len() - at < 8 {
-        return b;
-    }
-    for i in 0..8 {
-        b[i] = s[at + i];
-    }
-    b
-}
-
-// `b` over the eight samples from `at` on; nothing where `s` has fewer.
-pub fn store_block(s: &mut [i32], at: usize, b: [i32; 8])
-    ensures { λ _. ⌜ now (s .exit) ≡ withBlock (now (s .entry)) at b ⌝ }
-{
-    if s.len() < at {
-        return;
-    }
-    if s.len() - at < 8 {
-        return;
-    }
-    for i in 0..8 {
-        s[at + i] = b[i];
-    }
 }

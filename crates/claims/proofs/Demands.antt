@@ -33,7 +33,7 @@ use Rattle.plan.proofs.Judged.{plan-answer, meant-judged}
 use Rattle.plan.proofs.AsStandard.{list-standard}
 use Rattle.record.specs.declared.Record.{Record}
 use Rattle.record.specs.Records as Records
-use Rattle.record.specs.Records.{readAnswer, readOf, writeAnswer, writtenOf, writtenBytes}
+use Rattle.record.specs.Records.{readAnswer, readOf, channelsOf, stepsOf, reachedOf, writeAnswer, writtenOf, writtenBytes}
 use Rattle.record.proofs.Readings.{read-answer, read-judged, list-back, steps-back}
 use Rattle.record.proofs.ReadWritten.{read-written}
 use Rattle.record.proofs.WrittenRead.{written-read, one-record}
@@ -44,7 +44,7 @@ use Rattle.runs.specs.Claim.{Fills, ExactlyOne}
 use Rattle.runs.proofs.Whole.{squeezed-fills, squeezed-rebuilds, rebuilt-fills, rebuilt-squeezes, exactly-one}
 use Rattle.runs.proofs.AsStandard.{run-standard}
 use Rattle.squeeze.specs.GridRect as Rect
-use Rattle.squeeze.specs.Entry.{channelsOf, stepsOf, fits, answer, pictureOf, pyramidOf, workOf}
+use Rattle.squeeze.specs.Entry.{fits, answer, pictureOf, pyramidOf, workOf}
 use Rattle.claims.specs.Demands.{RefusalKeeps, ListIsStandard, PictureIsStandard, WriterGivesIt, WrittenRebuilds, RebuiltWrites, TilesTogether, Demands}
 
 -- ---- the layout: refused steps or not, the sample total stays; accepted steps reach the list that `steppedAll` says

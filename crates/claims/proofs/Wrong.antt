@@ -19,14 +19,13 @@ use Rattle.plan.specs.Steps as Steps
 use Rattle.plan.specs.Default as Default
 use Rattle.plan.specs.Default.{stoppingSide, coarseCount}
 use Rattle.plan.specs.Plans as Plans
-use Rattle.plan.specs.Plans.{steppedAll}
 use Rattle.record.specs.Reading as Reading
 use Rattle.record.specs.Records as Records
-use Rattle.record.specs.Records.{readAnswer}
+use Rattle.record.specs.Records.{readAnswer, reachedOf}
 use Rattle.buffer.specs.Buffer as Buffer
 use Rattle.runs.specs.Runs as Runs
 use Rattle.squeeze.specs.Entry as Entry
-use Rattle.squeeze.specs.Entry.{channelsOf, stepsOf, answer, pictureOf, pyramidOf}
+use Rattle.squeeze.specs.Entry.{answer, pictureOf, pyramidOf}
 use Rattle.claims.specs.Table.{record20by9}
 use Rattle.claims.specs.Wrong.{Program, Refuted, copies, zeroes, leaves, firstOnly, firstWritten, lastOnly, Count, CountRefuted, everyChannel, beforeThePlan, Wrong}
 
@@ -46,7 +45,7 @@ sampleOf f i = getD (f bytes read none none) i (pos 0)
 
 -- the coarse count by its definition
 coarse : Count
-coarse xs = coarseCount stoppingSide (steppedAll (stepsOf xs) (channelsOf xs))
+coarse xs = coarseCount stoppingSide (reachedOf xs)
 
 record Computed : Type 0 where
   pub accepted : answer bytes read none none ≡ 0

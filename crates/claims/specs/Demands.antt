@@ -17,16 +17,16 @@ use Rattle.tile.specs.Call.{Call}
 use Rattle.tile.specs.Cut.{Cut, Event, State, Begins, allAllowed, AllRan, AllHold, together}
 use Rattle.plan.specs.declared.Steps.{Steps}
 use Rattle.plan.specs.Steps.{steps}
-use Rattle.plan.specs.Plans.{steppedAll, meant, rewritten}
+use Rattle.plan.specs.Plans.{meant, rewritten}
 use Rattle.plan.specs.Standard.{StandardSteps}
-use Rattle.record.specs.Records.{readAnswer, writtenOf, writtenBytes}
+use Rattle.record.specs.Records.{readAnswer, channelsOf, stepsOf, reachedOf, writtenOf, writtenBytes}
 use Rattle.record.specs.Laws.{ReadWrittenLaw, WrittenReadLaw, OneRecord}
 use Rattle.listing.specs.Listing.{listed, textAfter}
 use Rattle.runs.specs.Runs.{layout}
 use Rattle.runs.specs.Unbounded.{RunInDomain, standardRun}
 use Rattle.runs.specs.Claim.{Fills, ExactlyOne}
 use Rattle.squeeze.specs.GridRect as Rect
-use Rattle.squeeze.specs.Entry.{channelsOf, stepsOf, answer, pictureOf, pyramidOf, workOf}
+use Rattle.squeeze.specs.Entry.{answer, pictureOf, pyramidOf, workOf}
 
 -- ---- demand 1: "a refusal gives its number and changes no lent slice", call by call
 pub record RefusalKeeps : Type 0 where
@@ -44,8 +44,8 @@ pub record RefusalKeeps : Type 0 where
 pub record ListIsStandard : Type 0 where
   pub rewrites : (l : ChannelList) (s : Steps) → rewritten l s .answer ≡ 0
       → StandardSteps (meant (steps s) (channels l)) (channels l) (channels (rewritten l s .list))
-  pub listed : (bytes : List ℕ) → readAnswer bytes ≡ 0 → StandardSteps (stepsOf bytes) (channelsOf bytes) (steppedAll (stepsOf bytes) (channelsOf bytes))
-  pub laid-out : (bytes : List ℕ) → readAnswer bytes ≡ 0 → layout (stepsOf bytes) (channelsOf bytes) ≡ steppedAll (stepsOf bytes) (channelsOf bytes)
+  pub listed : (bytes : List ℕ) → readAnswer bytes ≡ 0 → StandardSteps (stepsOf bytes) (channelsOf bytes) (reachedOf bytes)
+  pub laid-out : (bytes : List ℕ) → readAnswer bytes ≡ 0 → layout (stepsOf bytes) (channelsOf bytes) ≡ reachedOf bytes
 
 -- the picture, where every sample read or made in any step lies in the domain
 abbrev pub PictureIsStandard : Type 0

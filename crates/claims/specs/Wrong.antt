@@ -10,11 +10,10 @@ use Rattle.channel.specs.declared.Channel.{Channel}
 use Rattle.list.specs.declared.Step.{Step}
 use Rattle.list.specs.Lists.{stepped}
 use Rattle.plan.specs.Default.{stoppingSide, coarseCount}
-use Rattle.plan.specs.Plans.{steppedAll}
-use Rattle.record.specs.Records.{readAnswer}
+use Rattle.record.specs.Records.{readAnswer, channelsOf, stepsOf, reachedOf}
 use Rattle.buffer.specs.Buffer.{zeros}
 use Rattle.runs.specs.Runs.{stepBack, stepForward}
-use Rattle.squeeze.specs.Entry.{channelsOf, stepsOf, answer, pictureOf, pyramidOf}
+use Rattle.squeeze.specs.Entry.{answer, pictureOf, pyramidOf}
 
 -- the filled slice afterwards, from the record, the slice that is read and the slices as they came
 abbrev pub Program : Type 0
@@ -66,14 +65,14 @@ abbrev pub Count : Type 0
 Count = List ℕ → ℕ
 
 abbrev pub CountRefuted : Count → Type 0
-CountRefuted f = ((bytes : List ℕ) → readAnswer bytes ≡ 0 → f bytes ≡ coarseCount stoppingSide (steppedAll (stepsOf bytes) (channelsOf bytes))) → ⊥
+CountRefuted f = ((bytes : List ℕ) → readAnswer bytes ≡ 0 → f bytes ≡ coarseCount stoppingSide (reachedOf bytes)) → ⊥
 
 -- one number for every record, every channel of the rewritten list, and the count of the list before the plan
 abbrev pub always : ℕ → Count
 always n bytes = n
 
 abbrev pub everyChannel : Count
-everyChannel bytes = length (steppedAll (stepsOf bytes) (channelsOf bytes))
+everyChannel bytes = length (reachedOf bytes)
 
 abbrev pub beforeThePlan : Count
 beforeThePlan bytes = coarseCount stoppingSide (channelsOf bytes)

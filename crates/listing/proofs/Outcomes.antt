@@ -6,8 +6,9 @@ use Prim.Native.Nat.{ℕ, _<_, _≤_}
 use native.Mathlib.Nat.{zero-add}
 use native.Mathlib.Omega.{arith}
 use lib.Dec.{eqb}
-use lib.ListN.{length}
+use lib.ListN.{length, take}
 use borrow.Author.Tests.{eqb-true, ne-eqb, le-leb, lt-leb}
+use Rattle.numbers.specs.Numbers.{refusedLength}
 use Rattle.channel.specs.declared.Channel.{Channel}
 use Rattle.list.specs.declared.ChannelList.{ChannelList}
 use Rattle.list.specs.declared.Step.{Step}
@@ -32,7 +33,7 @@ use Rattle.record.specs.Records.{readAnswer, readOf}
 use Rattle.plan.proofs.Judged.{plan-answer}
 use Rattle.record.proofs.Readings.{read-answer, read-zero, read-judged, list-back, steps-back}
 use Rattle.listing.specs.Text.{numbered, refusedWord}
-use Rattle.listing.specs.Listing.{planText, listing, listed, textAfter}
+use Rattle.listing.specs.Listing.{planText, listing, listed, textAfter, judgedBytes, printed, printedOver}
 use Rattle.listing.specs.Putting.{Put}
 use Rattle.listing.proofs.Held.{steps-count}
 
@@ -63,7 +64,7 @@ module _ (bytes : List ℕ) (f : Record) (e : f ≡ readOf bytes) where
 
 -- ---- the slice: the listing's length is n
 module _ (bytes text : List ℕ) (n : ℕ) (en : n ≡ length (listing bytes)) where
-  pub listed-short : length text < n → (record { answer = 12; length = 0 } ≡ listed bytes text) × (text ≡ textAfter bytes text)
+  pub listed-short : length text < n → (record { answer = refusedLength; length = 0 } ≡ listed bytes text) × (text ≡ textAfter bytes text)
   unfolding listed textAfter
   listed-short h =
       let t = lt-leb (length (listing bytes)) (length text) (omega arith) in
@@ -75,3 +76,9 @@ module _ (bytes text : List ℕ) (n : ℕ) (en : n ≡ length (listing bytes)) w
   listed-whole h after end p =
       let t = le-leb (length (listing bytes)) (length text) (omega arith) in
       (rw (t, en), rw t (p .so ∙ rw zero-add))
+
+-- ---- the program's text: `judged` is what was listed
+module _ (input judged text after : List ℕ) (end : ℕ) (is : judged ≡ take judgedBytes input) (p : Put (listing judged) 0 text after end) where
+  pub printed-so : (end ≡ length (printed input)) × (after ≡ printedOver input text)
+  unfolding printed printedOver
+  printed-so = rw (← is) (omega (arith, p .ends), p .so ∙ rw zero-add)

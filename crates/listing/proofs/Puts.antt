@@ -18,6 +18,9 @@ module _ {new : List ℕ} {at : ℕ} {before after : List ℕ} {end : ℕ} (p : 
   pub put-length : length after ≡ length before
   put-length = ap length (p .so) ∙ placed-length before at new room
 
+  pub put-inside : end ≤ length after
+  put-inside = omega (arith, p .inside, put-length)
+
   -- one part after the other
   pub then : {more : List ℕ} {last : List ℕ} {finish : ℕ} → Put more end after last finish → Put (new ++ more) at before last finish
   then {more} q =

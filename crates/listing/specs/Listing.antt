@@ -4,14 +4,12 @@ use mathlib.Core.Bool.{cond}
 use mathlib.Core.List.{List, _++_}
 use Prim.Native.Nat.{ℕ}
 use lib.Dec.{eqb, leb}
-use lib.ListN.{length, drop}
+use lib.ListN.{length, take, drop}
 use Rattle.numbers.specs.Numbers.{refusedLength}
 use Rattle.channel.specs.declared.Channel.{Channel}
 use Rattle.list.specs.declared.Step.{Step}
 use Rattle.plan.specs.Default.{stoppingSide, coarseCount}
-use Rattle.plan.specs.Plans.{meant, steppedAll}
-use Rattle.record.specs.Reading.{formOf}
-use Rattle.record.specs.Records.{readAnswer}
+use Rattle.record.specs.Records.{readAnswer, stepsOf, reachedOf}
 use Rattle.listing.specs.declared.Listed.{Listed}
 use Rattle.listing.specs.Text.{stepsWord, channelsWord, coarseWord, refusedWord, numbered, stepLines, channelLines}
 
@@ -23,13 +21,10 @@ planText ss cs =
     ++ (numbered channelsWord (length cs)
     ++ (channelLines cs ++ numbered coarseWord (coarseCount stoppingSide cs))))
 
-abbrev pub stepsOf : List ℕ → List Step
-stepsOf bytes = meant (formOf bytes .steps) (formOf bytes .channels)
-
 unfoldable pub listing : List ℕ → List ℕ
 listing bytes =
     cond (eqb (readAnswer bytes) 0)
-    (planText (stepsOf bytes) (steppedAll (stepsOf bytes) (formOf bytes .channels)))
+    (planText (stepsOf bytes) (reachedOf bytes))
     (numbered refusedWord (readAnswer bytes))
 
 -- the text over the front of a slice that has room for it (question 14: 12), and the rest as it was
@@ -42,3 +37,14 @@ listed bytes text =
 unfoldable pub textAfter : List ℕ → List ℕ → List ℕ
 textAfter bytes text =
     cond (leb (length (listing bytes)) (length text)) (listing bytes ++ drop (length (listing bytes)) text) text
+
+-- ---- the program: "judges the first 4,096 bytes of standard input"
+abbrev pub judgedBytes : ℕ
+judgedBytes = 4096
+
+-- what it prints for its input, and a text that had room for it afterwards
+unfoldable pub printed : List ℕ → List ℕ
+printed input = listing (take judgedBytes input)
+
+unfoldable pub printedOver : List ℕ → List ℕ → List ℕ
+printedOver input text = printed input ++ drop (length (printed input)) text

@@ -25,15 +25,16 @@ pub struct Listed {
 // Room for any listing: at most 64 step lines and 256 channel lines.
 pub const LISTING_ROOM: usize = 8192;
 
+// "judges the first 4,096 bytes of standard input".
+pub const JUDGED_BYTES: usize = 4096;
+
 // `word` into `text` from `at` on. Here and below the result is where the new
 // part ends.
 fn put_word(word: &[u8], at: usize, text: &mut [u8]) -> usize
     requires { ⌜ at + length (now word) ≤ length (now text) ⌝ }
     ensures { λ r. ⌜ Put (now (word .entry)) at (now (text .entry)) (now (text .exit)) r ⌝ }
 {
-    for k in 0..word.len() {
-        text[at + k] = word[k];
-    }
+    record::put_bytes(word, at, text);
     at + word.len()
 }
 
@@ -237,4 +238,16 @@ pub fn list_record(bytes: &[u8], text: &mut [u8]) -> Listed
     }
     put_word(&page[..length], 0, text);
     Listed { answer: 0, length }
+}
+
+// What the program prints for the bytes of its input, over the front of `text`;
+// the rest of it stays.
+pub fn list_input(input: &[u8], text: &mut [u8; LISTING_ROOM]) -> usize
+    ensures { λ r. ⌜ (r ≡ length (Spec.printed (now (input .entry)))) × (now (text .exit) ≡ Spec.printedOver (now (input .entry)) (now (text .entry))) ⌝ }
+    ensures room { λ r. ⌜ r ≤ length (now (text .exit)) ⌝ }
+{
+    if input.len() < JUDGED_BYTES {
+        return put_listing(input, text);
+    }
+    put_listing(&input[..JUDGED_BYTES], text)
 }

@@ -1,13 +1,15 @@
 // Replays pairs of the published Rust (tests/pairs.py made `stdin` of its
 // answers): each pair back in both forms and forward again, and eight pairs at
 // a time as one block. Prints how many there were and how many came out right.
+ghost use Prim.Native.Nat.{_<_};
 use libc::STDIN_FILENO;
-use libc::STDOUT_FILENO;
 use samples::sample_at;
 
 // A pair of `stdin`: average, residual, next average, previous output, first
 // and second, four bytes each.
 const PAIR: usize = 24;
+
+const BLOCK: usize = 8 * PAIR;
 
 // Whether the pair that starts at `at` comes out right both ways.
 fn pair_agrees(bytes: &[u8], at: usize) -> bool {
@@ -61,43 +63,33 @@ fn block_agrees(bytes: &[u8], at: usize) -> bool {
     same
 }
 
-fn pairs_agree(bytes: &[u8]) -> u64 {
-    let mut right = 0u64;
-    for i in 0..bytes.len() / PAIR {
-        if pair_agrees(bytes, i * PAIR) {
-            right += 1;
-        }
+fn agrees(bytes: &[u8], at: usize, size: usize) -> bool {
+    if size == PAIR {
+        pair_agrees(bytes, at)
+    } else {
+        block_agrees(bytes, at)
     }
-    right
 }
 
-fn blocks_agree(bytes: &[u8]) -> u64 {
+// How many cases come out right, pairs or blocks by their size.
+fn right_of(bytes: &[u8], size: usize) -> u64
+    requires { ⌜ 0 < size ⌝ }
+{
     let mut right = 0u64;
-    for i in 0..bytes.len() / (8 * PAIR) {
-        if block_agrees(bytes, i * (8 * PAIR)) {
+    let mut at = 0;
+    while size <= bytes.len() - at {
+        if agrees(bytes, at, size) {
             right += 1;
         }
+        at += size;
     }
     right
-}
-
-// "what", the cases and how many of them are right, on one line.
-fn say(what: &[u8], cases: u64, right: u64) {
-    io::write_all(STDOUT_FILENO, what);
-    io::print_decimal(STDOUT_FILENO, cases);
-    io::write_all(STDOUT_FILENO, b" right ");
-    io::print_decimal(STDOUT_FILENO, right);
-    io::write_all(STDOUT_FILENO, b"\n");
 }
 
 fn main() {
     let mut buffer = [0u8; 524288];
     let n = io::read_full(STDIN_FILENO, &mut buffer);
     let bytes = &buffer[..n];
-    say(b"pairs ", (bytes.len() / PAIR) as u64, pairs_agree(bytes));
-    say(
-        b"blocks ",
-        (bytes.len() / (8 * PAIR)) as u64,
-        blocks_agree(bytes),
-    );
+    replay::say(b"pairs ", (n / PAIR) as u64, right_of(bytes, PAIR));
+    replay::say(b"blocks ", (n / BLOCK) as u64, right_of(bytes, BLOCK));
 }

@@ -43,19 +43,51 @@ pub extern "C" fn probe_squeeze(first: i32, second: i32, next: i32, prev: i32, o
     out[1] = residual;
 }
 
+// The eight samples from `at` on; zeros where `s` has fewer.
+fn load_block(s: &[i32], at: usize) -> [i32; 8]
+    ensures { λ r. ⌜ r ≡ Probe.blockAt (now (s .entry)) at ⌝ }
+{
+    let mut b = [0i32; 8];
+    if s.len() < at {
+        return b;
+    }
+    if s.len() - at < 8 {
+        return b;
+    }
+    for i in 0..8 {
+        b[i] = s[at + i];
+    }
+    b
+}
+
+// `b` over the eight samples from `at` on; nothing where `s` has fewer.
+fn store_block(s: &mut [i32], at: usize, b: [i32; 8])
+    ensures { λ _. ⌜ now (s .exit) ≡ Probe.withBlock (now (s .entry)) at b ⌝ }
+{
+    if s.len() < at {
+        return;
+    }
+    if s.len() - at < 8 {
+        return;
+    }
+    for i in 0..8 {
+        s[at + i] = b[i];
+    }
+}
+
 // Each input holds eight samples, and `out` sixteen: the firsts, the seconds.
 #[no_mangle]
 pub extern "C" fn probe_block(avg: &[i32], res: &[i32], next: &[i32], prev: &[i32], out: &mut [i32])
     ensures { λ _. ⌜ now (out .exit) ≡ Probe.blocks (now (avg .entry)) (now (res .entry)) (now (next .entry)) (now (prev .entry)) (now (out .entry)) ⌝ }
 {
     let r = block::unsqueeze_block(
-        block::load_block(avg, 0),
-        block::load_block(res, 0),
-        block::load_block(next, 0),
-        block::load_block(prev, 0),
+        load_block(avg, 0),
+        load_block(res, 0),
+        load_block(next, 0),
+        load_block(prev, 0),
     );
     let firsts = r[0];
     let seconds = r[1];
-    block::store_block(out, 0, firsts);
-    block::store_block(out, 8, seconds);
+    store_block(out, 0, firsts);
+    store_block(out, 8, seconds);
 }

@@ -13,7 +13,7 @@ use Rattle.list.specs.Lists.{maxChannels, maxSteps}
 use Rattle.list.proofs.Asking.{passed}
 use Rattle.plan.specs.Steps.{flagsAllowed}
 use Rattle.record.specs.Bytes.{channelTag, channelLength, stepTag, stepLength, headLength, channelSize, stepSize}
-use Rattle.record.specs.Reading.{tagOf, lengthOf, channelOf, flagsAt, fieldInside, isChannel, isStep, channelAllowed, judgeChannelField, judgeStepField, judgeField}
+use Rattle.record.specs.Reading.{tagOf, lengthOf, fieldChannel, flagsAt, fieldInside, isChannel, isStep, channelAllowed, judgeChannelField, judgeStepField, judgeField}
 
 module _ (bytes : List ℕ) where
   pub inside : fieldInside bytes ≡ true → (headLength ≤ length bytes) × (headLength + lengthOf bytes ≤ length bytes)
@@ -102,15 +102,15 @@ step-allowed bytes steps h =
     (ltb-true _ _ (a .0), ltb-true _ _ (b .0))
 
 pub channel-allowed : (bytes : List ℕ) (channels : ℕ) (metas : Bool) → judgeChannelField bytes channels metas ≡ 0
-    → (channels < maxChannels) × (channelAllowed (channelOf bytes) metas ≡ true)
+    → (channels < maxChannels) × (channelAllowed (fieldChannel bytes) metas ≡ true)
 unfolding judgeChannelField
 channel-allowed bytes channels metas h =
     let a = passed (ltb channels maxChannels) _ _ h in
-    let b = passed (channelAllowed (channelOf bytes) metas) _ _ (a .1) in
+    let b = passed (channelAllowed (fieldChannel bytes) metas) _ _ (a .1) in
     (ltb-true _ _ (a .0), b .0)
 
 -- the code's test of question 4
-pub channel-asked : (bytes : List ℕ) (c : Channel) (metas allowed meta : Bool) → c ≡ channelOf bytes → allowed ≡ shiftsAllowed c → meta ≡ isMeta c
-    → (allowed && (not meta || metas)) ≡ channelAllowed (channelOf bytes) metas
+pub channel-asked : (bytes : List ℕ) (c : Channel) (metas allowed meta : Bool) → c ≡ fieldChannel bytes → allowed ≡ shiftsAllowed c → meta ≡ isMeta c
+    → (allowed && (not meta || metas)) ≡ channelAllowed (fieldChannel bytes) metas
 unfolding channelAllowed
 channel-asked bytes c metas allowed meta ec ea em = rw (ea, em, ec)

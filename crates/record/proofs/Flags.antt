@@ -9,7 +9,7 @@ use lib.Dec.{eqb}
 use Rattle.list.specs.declared.Step.{Step}
 use Rattle.plan.specs.Steps as S
 use Rattle.plan.specs.Steps.{bit, flagsOf, flagsAllowed}
-use Rattle.record.specs.Reading.{flagsAt, stepOf}
+use Rattle.record.specs.Reading.{flagsAt, fieldStep}
 
 module _ (s : Step) where
   pub flags-allowed : flagsAllowed (flagsOf s) ≡ true
@@ -39,6 +39,6 @@ bits (suc (suc zero)) h = refl
 bits (suc (suc (suc zero))) h = refl
 bits (suc (suc (suc (suc f)))) h = absurd (omega arith)
 
-pub flags-read : (bytes : List ℕ) → flagsAt bytes < 4 → flagsOf (stepOf bytes) ≡ flagsAt bytes
+pub flags-read : (bytes : List ℕ) → flagsAt bytes < 4 → flagsOf (fieldStep bytes) ≡ flagsAt bytes
 unfolding S.flagsOf
 flags-read bytes h = bits (flagsAt bytes) h

@@ -9,6 +9,7 @@ use lib.Dec.{eqb}
 use lib.ListN.{length, take, drop, length-drop, drop-of-length-le}
 use lib.Seq.{take-all, drop-drop}
 use borrow.Author.Tests.{eq-eqb, ne-eqb, le-leb, lt-leb}
+use Rattle.numbers.specs.Numbers.{refusedCount}
 use Rattle.channel.specs.declared.Channel.{Channel}
 use Rattle.channel.specs.Channel.{isMeta}
 use Rattle.list.specs.declared.ChannelList.{ChannelList}
@@ -20,7 +21,7 @@ use Rattle.plan.specs.Steps as S
 use Rattle.plan.specs.Adding.{pushed}
 use Rattle.plan.proofs.Packed.{packed-count, pushed-packed}
 use Rattle.record.specs.Bytes.{channelSize, stepSize}
-use Rattle.record.specs.Reading.{refused, asked, channelOf, stepOf, isStep, judgeField, finished, answerOf, readFields, formOf}
+use Rattle.record.specs.Reading.{refused, asked, fieldChannel, fieldStep, isStep, judgeField, finished, answerOf, readFields, formOf}
 use Rattle.record.specs.Adding.{withChannel}
 use Rattle.record.specs.Records.{packedForm}
 use Rattle.record.proofs.Pushed.{metas-pushed, list-pushed, list-count}
@@ -69,7 +70,7 @@ module _ (bytes : List ℕ) (list : ChannelList) (steps : Steps) (metas : Bool) 
         go zero = refl
         go (suc t) = refl
 
-    pub form-missing : list .count ≡ 0 → formOf bytes ≡ refused 3
+    pub form-missing : list .count ≡ 0 → formOf bytes ≡ refused refusedCount
     form-missing z = done ∙ rw (lt-leb 1 (length (w .cs)) (omega (arith, count-is)))
 
     pub form-all : (list .count ≡ 0 → ⊥) → record { answer = 0; list = list; steps = steps } ≡ packedForm (formOf bytes)
@@ -88,8 +89,8 @@ module _ (bytes : List ℕ) (list : ChannelList) (steps : Steps) (metas : Bool) 
     turn : (t : ℕ) → readFields (suc t) field (w .cs) (w .ss)
         ≡ asked (eqb answer 0) answer
         (cond (isStep field)
-        (readFields t (drop stepSize field) (w .cs) (w .ss ++ (stepOf field ∷ [])))
-        (readFields t (drop channelSize field) (w .cs ++ (channelOf field ∷ [])) (w .ss)))
+        (readFields t (drop stepSize field) (w .cs) (w .ss ++ (fieldStep field ∷ [])))
+        (readFields t (drop channelSize field) (w .cs ++ (fieldChannel field ∷ [])) (w .ss)))
     turn t =
         let n : length field ≡ 0 → ⊥ = λ e. omega (arith, length-drop at bytes, ap length whole) in
         rw (ne-eqb (length field) 0 n, ← judged)
@@ -112,34 +113,34 @@ module _ (bytes : List ℕ) (list : ChannelList) (steps : Steps) (metas : Bool) 
       next : (n : ℕ) → drop n field ≡ drop (at + n) bytes
       next n = ap (drop n) whole ∙ drop-drop n at bytes
 
-      pub held-step : (s : Steps) → isStep field ≡ true → s ≡ pushed steps (stepOf field) → Held bytes list s metas (at + stepSize)
+      pub held-step : (s : Steps) → isStep field ≡ true → s ≡ pushed steps (fieldStep field) → Held bytes list s metas (at + stepSize)
       held-step s k es =
           let f = is-step field _ _ _ accepted k in
           let l = step-allowed field _ (f .judged) in
           record {
             cs = w .cs;
-            ss = w .ss ++ stepOf field ∷ [];
+            ss = w .ss ++ fieldStep field ∷ [];
             turns = more .0;
             list-is = w .list-is;
-            steps-are = es ∙ rw (w .steps-are) (pushed-packed (w .ss) (stepOf field) (l .0));
+            steps-are = es ∙ rw (w .steps-are) (pushed-packed (w .ss) (fieldStep field) (l .0));
             metas-are = w .metas-are;
             inside = omega (arith, f .long, length-drop at bytes, ap length whole);
             enough = omega (arith, w .enough, more .1);
             so = rw (← next stepSize) (sym (turn (more .0) ∙ rw (eq-eqb answer 0 z, k)) ∙ more .2);
           }
 
-      pub held-channel : (l : ChannelList) (c : Channel) (m : Bool) → isStep field ≡ false → c ≡ channelOf field → l ≡ withChannel list c → m ≡ isMeta c
+      pub held-channel : (l : ChannelList) (c : Channel) (m : Bool) → isStep field ≡ false → c ≡ fieldChannel field → l ≡ withChannel list c → m ≡ isMeta c
           → Held bytes l steps m (at + channelSize)
       held-channel l c m k ec el em =
           let f = is-channel field _ _ _ accepted k in
           let a = channel-allowed field _ _ (f .judged) in
           record {
-            cs = w .cs ++ channelOf field ∷ [];
+            cs = w .cs ++ fieldChannel field ∷ [];
             ss = w .ss;
             turns = more .0;
-            list-is = el ∙ rw (ec, w .list-is) (list-pushed (w .cs) (channelOf field) (a .0));
+            list-is = el ∙ rw (ec, w .list-is) (list-pushed (w .cs) (fieldChannel field) (a .0));
             steps-are = w .steps-are;
-            metas-are = em ∙ rw ec (metas-pushed (w .cs) (channelOf field) (a .1));
+            metas-are = em ∙ rw ec (metas-pushed (w .cs) (fieldChannel field) (a .1));
             inside = omega (arith, f .long, length-drop at bytes, ap length whole);
             enough = omega (arith, w .enough, more .1);
             so = rw (← next channelSize) (sym (turn (more .0) ∙ rw (eq-eqb answer 0 z, k)) ∙ more .2);

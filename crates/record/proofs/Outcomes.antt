@@ -8,6 +8,7 @@ use native.Mathlib.Omega.{arith}
 use lib.Dec.{eqb, leb}
 use lib.ListN.{length, drop, length-append}
 use borrow.Author.Tests.{eq-eqb, ne-eqb, le-leb, lt-leb}
+use Rattle.numbers.specs.Numbers.{refusedCount, refusedLength}
 use Rattle.channel.specs.declared.Channel.{Channel}
 use Rattle.list.specs.declared.ChannelList.{ChannelList}
 use Rattle.list.specs.declared.Step.{Step}
@@ -40,7 +41,7 @@ cond-bare true x y hx hy = hx
 cond-bare false x y hx hy = hy
 
 finished-bare : (cs : List Channel) (ss : List Step) → Bare (finished cs ss)
-finished-bare cs ss = asked-bare (leb 1 (length cs)) 3 _ (λ z. absurd (z refl))
+finished-bare cs ss = asked-bare (leb 1 (length cs)) refusedCount _ (λ z. absurd (z refl))
 
 fields-bare : (turns : ℕ) (bytes : List ℕ) (cs : List Channel) (ss : List Step) → Bare (readFields turns bytes cs ss)
 fields-bare zero bytes cs ss = finished-bare cs ss
@@ -119,15 +120,15 @@ module _ (l : ChannelList) (s : Steps) (a : ℕ) (ea : a ≡ judgePlan l s) wher
     record-size = omega (arith, length-append (channelFields (channels l)) (stepFields (S.steps s)), channels-size, steps-size)
 
     module _ (out : List ℕ) where
-      write-answer : (b : Bool) → leb (length (recordFor l s)) (length out) ≡ b → writeAnswer l s out ≡ cond b 0 12
+      write-answer : (b : Bool) → leb (length (recordFor l s)) (length out) ≡ b → writeAnswer l s out ≡ cond b 0 refusedLength
       unfolding writeAnswer
       write-answer b e = rw (sym ea ∙ z, e)
 
       pub write-fits : length (recordFor l s) ≤ length out → writeAnswer l s out ≡ 0
       write-fits h = write-answer true (le-leb (length (recordFor l s)) (length out) h)
 
-      pub write-short : length out < channelSize * l .count + stepSize * s .count → (record { answer = 12; length = 0 } ≡ writtenOf l s out) × (out ≡ writtenBytes l s out)
-      write-short h = written-nothing l s out 12 (write-answer false (lt-leb (length (recordFor l s)) (length out) (omega (arith, record-size)))) (λ e. omega arith)
+      pub write-short : length out < channelSize * l .count + stepSize * s .count → (record { answer = refusedLength; length = 0 } ≡ writtenOf l s out) × (out ≡ writtenBytes l s out)
+      write-short h = written-nothing l s out refusedLength (write-answer false (lt-leb (length (recordFor l s)) (length out) (omega (arith, record-size)))) (λ e. omega arith)
 
       module _ (h : channelSize * l .count + stepSize * s .count ≤ length out) where
         fits : writeAnswer l s out ≡ 0

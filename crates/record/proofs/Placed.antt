@@ -3,6 +3,7 @@ use mathlib.Core.Path.{_≡_, sym, ap, _∙_}
 use mathlib.Core.List.{List, [], _++_, append-assoc, append-nil}
 use Prim.Native.Nat.{ℕ, _+_, _-_, _<_, _≤_, min}
 use native.Mathlib.Omega.{arith}
+use borrow.Author.Tests.{le-leb, lt-leb}
 use lib.ListN.{length, take, drop, length-append}
 use lib.Seq.{paste, paste-zero, length-paste, take-paste, drop-paste, take-length, drop-drop}
 use Rattle.list.specs.Tables.{table}
@@ -11,7 +12,7 @@ use Rattle.list.proofs.Tables.{table-rest, table-none}
 use Rattle.plan.specs.declared.Steps.{Steps}
 use Rattle.plan.specs.Steps as S
 use Rattle.plan.specs.Steps.{stepAt}
-use Rattle.record.specs.Bytes.{joined, placed}
+use Rattle.record.specs.Bytes.{joined, placed, putBytes}
 
 -- what a loop over the steps has left where it begins
 pub steps-all : (s : Steps) (n : ℕ) → n ≡ min (s .count) maxSteps → table (stepAt s) 0 (n - 0) ≡ S.steps s
@@ -39,6 +40,16 @@ module _ (out : List ℕ) (at : ℕ) (xs : List ℕ) (fits : at + length xs ≤ 
   placed-more ys =
       let n : at + length (xs ++ ys) ≡ at + length xs + length ys = omega (arith, length-append xs ys) in
       rw (placed-take, ← drop-drop (length ys) (at + length xs) (placed out at xs), placed-drop, drop-drop (length ys) (at + length xs) out, n) (simp append-assoc)
+
+-- where there is room, and where there is none
+module _ (out : List ℕ) (at : ℕ) (xs : List ℕ) where
+  pub put-placed : at + length xs ≤ length out → putBytes out at xs ≡ placed out at xs
+  unfolding putBytes
+  put-placed h = rw (le-leb (at + length xs) (length out) h)
+
+  pub put-nothing : length out < at + length xs → out ≡ putBytes out at xs
+  unfolding putBytes
+  put-nothing h = rw (lt-leb (at + length xs) (length out) h)
 
 -- n fields, those of f, give `whole`, which is put into out₀ from `start` on; k of them are there
 pub record Putting {ℓ} {A : Type ℓ} (field : A → List ℕ) (f : ℕ → A) (n : ℕ) (whole : List ℕ) (start : ℕ) (out₀ out : List ℕ) (at k : ℕ) : Type ℓ where
@@ -72,12 +83,12 @@ module _ {ℓ} {A : Type ℓ} (field : A → List ℕ) (f : ℕ → A) (n : ℕ)
       putting-room =
           omega (arith, putting-length, w .at-is, length-append (w .done) v, length-append (w .done ++ v) (joined field (table f (k + 1) (n - (k + 1)))), ap length next)
 
-      pub putting-more : (out′ : List ℕ) (size : ℕ) → out′ ≡ placed out at v → size ≡ length v → Putting field f n whole start out₀ out′ (at + size) (k + 1)
+      pub putting-more : (out′ : List ℕ) (size : ℕ) → out′ ≡ putBytes out at v → size ≡ length v → Putting field f n whole start out₀ out′ (at + size) (k + 1)
       putting-more out′ size eo es =
           record {
             done = w .done ++ v;
             inside = omega arith;
             at-is = omega (arith, w .at-is, length-append (w .done) v);
-            so = eo ∙ rw (w .so, w .at-is) (placed-more out₀ start (w .done) (omega (arith, all-length)) v);
+            so = eo ∙ put-placed out at v putting-room ∙ rw (w .so, w .at-is) (placed-more out₀ start (w .done) (omega (arith, all-length)) v);
             left = next;
           }

@@ -7,6 +7,7 @@ use native.Mathlib.Omega.{arith}
 use lib.ListN.{length, drop, length-append}
 use lib.Seq.{append-snoc, take-append-seam}
 use borrow.Author.Tests.{lt-ltb, le-leb, ne-eqb}
+use Rattle.numbers.specs.Numbers.{maxSide}
 use Rattle.channel.specs.declared.Channel.{Channel}
 use Rattle.channel.specs.Channel.{isMeta, shiftsAllowed}
 use Rattle.list.specs.declared.ChannelList.{ChannelList}
@@ -24,7 +25,7 @@ use Rattle.plan.specs.Plans as P
 use Rattle.plan.specs.Plans.{judgeSteps, judgeMeant, judgePlan}
 use Rattle.record.specs.declared.Record.{Record}
 use Rattle.record.specs.Bytes.{headLength, channelField, stepField, channelFields, stepFields, recordOf, channelSize, stepSize}
-use Rattle.record.specs.Reading.{channelOf, stepOf, fieldInside, isChannel, isStep, channelAllowed, judgeChannelField, judgeStepField, judgeField, readFields, formOf}
+use Rattle.record.specs.Reading.{fieldChannel, fieldStep, fieldInside, isChannel, isStep, channelAllowed, judgeChannelField, judgeStepField, judgeField, readFields, formOf}
 use Rattle.record.specs.Records.{readAnswer, readOf, recordFor}
 use Rattle.record.specs.Laws.{SidesFit, ReadWritten, ReadWrittenLaw}
 use Rattle.record.proofs.Flags.{flags-allowed, flags-back}
@@ -41,10 +42,10 @@ abbrev StepFits : Step → Type 0
 StepFits s = (s .begin < 65536) × (s .number < 65536)
 
 abbrev ChannelFits : Channel → Type 0
-ChannelFits c = (c .width < 65536) × (c .height < 65536)
+ChannelFits c = (c .width ≤ maxSide) × (c .height ≤ maxSide)
 
 module _ (s : Step) (rest : List ℕ) (fits : StepFits s) where
-  step-read : stepOf (stepField s ++ rest) ≡ s
+  step-read : fieldStep (stepField s ++ rest) ≡ s
   unfolding stepField
   step-read =
       let b = word-back (s .begin) (fits .0) in
@@ -76,11 +77,11 @@ module _ (s : Step) (rest : List ℕ) (fits : StepFits s) where
       rw (ne-eqb (length (stepField s ++ rest)) 0 step-some, step-judged (length cs) (all isMeta cs) (length ss) h, step-known, step-rest, step-read)
 
 module _ (c : Channel) (rest : List ℕ) (fits : ChannelFits c) where
-  channel-read : channelOf (channelField c ++ rest) ≡ c
+  channel-read : fieldChannel (channelField c ++ rest) ≡ c
   unfolding channelField
   channel-read =
-      let w = word-back (c .width) (fits .0) in
-      let h = word-back (c .height) (fits .1) in
+      let w = word-back (c .width) (omega (arith, fits .0)) in
+      let h = word-back (c .height) (omega (arith, fits .1)) in
       λ i. record { width = w i; height = h i; hshift = c .hshift; vshift = c .vshift }
 
   channel-judged : (channels : ℕ) (metas : Bool) → channels < maxChannels → channelAllowed c metas ≡ true → judgeField (channelField c ++ rest) channels metas 0 ≡ 0

@@ -10,7 +10,7 @@ use lib.Seq.{ext-getD, getD-take, length-take-le}
 use Rattle.list.specs.Tables.{table}
 use Rattle.list.proofs.Tables.{table-length, table-at}
 use Rattle.record.specs.Bytes.{channelLength, stepLength, channelSize, stepSize, low, high, word, channelField, stepField}
-use Rattle.record.specs.Reading.{byteAt, channelOf, stepOf}
+use Rattle.record.specs.Reading.{byteAt, fieldChannel, fieldStep}
 use Rattle.record.specs.Laws.{AreBytes}
 use Rattle.record.proofs.Fields.{IsStep, IsChannel, step-allowed}
 use Rattle.record.proofs.Flags.{flags-read}
@@ -38,7 +38,7 @@ front bytes n h =
     getD-take n bytes k 0 (omega arith) ∙ sym (table-at (byteAt bytes) 0 n k 0 (omega arith) ∙ ap (byteAt bytes) z)))
 
 module _ (bytes : List ℕ) (b : AreBytes bytes) where
-  pub step-bytes : (steps : ℕ) → IsStep bytes steps → bytes ≡ stepField (stepOf bytes) ++ drop stepSize bytes
+  pub step-bytes : (steps : ℕ) → IsStep bytes steps → bytes ≡ stepField (fieldStep bytes) ++ drop stepSize bytes
   unfolding stepField
   step-bytes steps f =
       let l : byteAt bytes 1 ≡ stepLength = omega (arith, b 1, b 2, f .size) in
@@ -56,7 +56,7 @@ module _ (bytes : List ℕ) (b : AreBytes bytes) where
       )
 
   pub channel-bytes : (channels : ℕ) (metas : Bool) (steps : ℕ) → IsChannel bytes channels metas steps
-      → bytes ≡ channelField (channelOf bytes) ++ drop channelSize bytes
+      → bytes ≡ channelField (fieldChannel bytes) ++ drop channelSize bytes
   unfolding channelField
   channel-bytes channels metas steps f =
       let l : byteAt bytes 1 ≡ channelLength = omega (arith, b 1, b 2, f .size) in

@@ -9,6 +9,7 @@ use lib.Dec.{eqb, leb}
 use lib.ListN.{length, drop, length-drop}
 use lib.Seq.{getD-drop}
 use borrow.Author.Tests.{eqb-true, eqb-false}
+use Rattle.numbers.specs.Numbers.{refusedCount}
 use Rattle.channel.specs.declared.Channel.{Channel}
 use Rattle.list.specs.declared.Step.{Step}
 use Rattle.list.specs.Lists as Lists
@@ -19,7 +20,7 @@ use Rattle.plan.specs.Plans.{judgePlan}
 use Rattle.plan.proofs.Packed.{packed-count, steps-packed}
 use Rattle.record.specs.declared.Record.{Record}
 use Rattle.record.specs.Bytes.{channelField, stepField, channelFields, stepFields, recordOf, channelSize, stepSize}
-use Rattle.record.specs.Reading.{Form, asked, channelOf, stepOf, isStep, finished, answerOf, readFields, formOf}
+use Rattle.record.specs.Reading.{Form, asked, fieldChannel, fieldStep, isStep, finished, answerOf, readFields, formOf}
 use Rattle.record.specs.Records.{readAnswer, readOf, recordFor, writeAnswer}
 use Rattle.record.specs.Laws.{AreBytes, WrittenRead, WrittenReadLaw, OneRecord}
 use Rattle.record.proofs.Fields.{is-step, is-channel}
@@ -49,29 +50,29 @@ asked-gives whole answer next h = go (eqb answer 0) refl
 finished-gives : (cs : List Channel) (ss : List Step) (bytes : List ℕ) → length bytes ≤ 0 → Gives (recordOf cs ss ++ bytes) (finished cs ss)
 finished-gives cs ss bytes h = rw (none bytes h, append-nil) (go (leb 1 (length cs)))
   where
-    go : (b : Bool) → Gives (recordOf cs ss) (asked b 3 (record { answer = 0; channels = cs; steps = ss }))
+    go : (b : Bool) → Gives (recordOf cs ss) (asked b refusedCount (record { answer = 0; channels = cs; steps = ss }))
     go true z = refl
     go false z = absurd (omega arith)
 
 module _ (bytes : List ℕ) (b : AreBytes bytes) (cs : List Channel) (ss : List Step) where
   step-next : answerOf bytes cs ss ≡ 0 → isStep bytes ≡ true
-      → recordOf cs (ss ++ stepOf bytes ∷ []) ++ drop stepSize bytes ≡ recordOf cs ss ++ bytes
+      → recordOf cs (ss ++ fieldStep bytes ∷ []) ++ drop stepSize bytes ≡ recordOf cs ss ++ bytes
   unfolding recordOf
   step-next h t =
-      rw (joined-snoc stepField ss (stepOf bytes))
+      rw (joined-snoc stepField ss (fieldStep bytes))
       (simp append-assoc (ap (λ (l : List ℕ). channelFields cs ++ (stepFields ss ++ l)) (sym (step-bytes bytes b _ (is-step bytes _ _ _ h t)))))
 
   channel-next : answerOf bytes cs ss ≡ 0 → isStep bytes ≡ false
-      → recordOf (cs ++ channelOf bytes ∷ []) ss ++ drop channelSize bytes ≡ recordOf cs ss ++ bytes
+      → recordOf (cs ++ fieldChannel bytes ∷ []) ss ++ drop channelSize bytes ≡ recordOf cs ss ++ bytes
   unfolding recordOf
   channel-next h t =
       let f = is-channel bytes _ _ _ h t in
-      rw (none ss (omega (arith, f .first)), joined-snoc channelField cs (channelOf bytes))
+      rw (none ss (omega (arith, f .first)), joined-snoc channelField cs (fieldChannel bytes))
       (simp (append-assoc, append-nil) (ap (λ (l : List ℕ). channelFields cs ++ l) (sym (channel-bytes bytes b _ _ _ f))))
 
   turn-gives : (x y : Form)
-      → Gives (recordOf cs (ss ++ stepOf bytes ∷ []) ++ drop stepSize bytes) x
-      → Gives (recordOf (cs ++ channelOf bytes ∷ []) ss ++ drop channelSize bytes) y
+      → Gives (recordOf cs (ss ++ fieldStep bytes ∷ []) ++ drop stepSize bytes) x
+      → Gives (recordOf (cs ++ fieldChannel bytes ∷ []) ss ++ drop channelSize bytes) y
       → Gives (recordOf cs ss ++ bytes)
       (cond (eqb (length bytes) 0) (finished cs ss) (asked (eqb (answerOf bytes cs ss) 0) (answerOf bytes cs ss) (cond (isStep bytes) x y)))
   turn-gives x y gx gy = go (eqb (length bytes) 0) refl

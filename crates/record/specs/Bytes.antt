@@ -1,7 +1,9 @@
 -- The record's bytes (document 01, "Record"): "Fields of a one-byte tag, a two-byte length and that many bytes; all integers little-endian."
 -- The one record of a channel list and its steps. Definitions only.
+use mathlib.Core.Bool.{cond}
 use mathlib.Core.List.{List, [], _∷_, _++_}
 use Prim.Native.Nat.{ℕ, _+_, _*_, _/_, _%_}
+use lib.Dec.{leb}
 use lib.ListN.{length, take, drop}
 use Rattle.channel.specs.declared.Channel.{Channel}
 use Rattle.list.specs.declared.Step.{Step}
@@ -68,6 +70,9 @@ stepFields ss = joined stepField ss
 unfoldable pub recordOf : List Channel → List Step → List ℕ
 recordOf cs ss = channelFields cs ++ stepFields ss
 
--- a slice with bytes put into it from `at` on
+-- a slice with bytes put into it from `at` on, and the same where it has room for them
 abbrev pub placed : List ℕ → ℕ → List ℕ → List ℕ
 placed out at bytes = take at out ++ (bytes ++ drop (at + length bytes) out)
+
+unfoldable pub putBytes : List ℕ → ℕ → List ℕ → List ℕ
+putBytes out at bytes = cond (leb (at + length bytes) (length out)) (placed out at bytes) out

@@ -4,6 +4,7 @@ use mathlib.Core.Path.{_≡_}
 use mathlib.Core.List.{List, [], _++_}
 use Prim.Native.Nat.{ℕ, _<_, _≤_}
 use lib.ListN.{length, getD, take, drop}
+use Rattle.numbers.specs.Numbers.{maxSide}
 use Rattle.list.specs.declared.ChannelList.{ChannelList}
 use Rattle.list.specs.Lists as Lists
 use Rattle.list.specs.Lists.{channels}
@@ -17,7 +18,7 @@ use Rattle.record.specs.Records.{readAnswer, readOf, recordFor, writeAns
 
 -- "width and height (0 to 65,535)"
 abbrev pub SidesFit : ChannelList → Type 0
-SidesFit l = (k : ℕ) → (getD (l .widths) k 0 < 65536) × (getD (l .heights) k 0 < 65536)
+SidesFit l = (k : ℕ) → (getD (l .widths) k 0 ≤ maxSide) × (getD (l .heights) k 0 ≤ maxSide)
 
 abbrev pub AreBytes : List ℕ → Type 0
 AreBytes bytes = (k : ℕ) → byteAt bytes k < 256

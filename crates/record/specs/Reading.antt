@@ -38,8 +38,8 @@ tagOf bytes = byteAt bytes 0
 abbrev pub lengthOf : List ℕ → ℕ
 lengthOf bytes = word (byteAt bytes 1) (byteAt bytes 2)
 
-abbrev pub channelOf : List ℕ → Channel
-channelOf bytes =
+abbrev pub fieldChannel : List ℕ → Channel
+fieldChannel bytes =
     record {
       width = word (byteAt bytes 3) (byteAt bytes 4);
       height = word (byteAt bytes 5) (byteAt bytes 6);
@@ -50,8 +50,8 @@ channelOf bytes =
 abbrev pub flagsAt : List ℕ → ℕ
 flagsAt bytes = byteAt bytes 3
 
-abbrev pub stepOf : List ℕ → Step
-stepOf bytes =
+abbrev pub fieldStep : List ℕ → Step
+fieldStep bytes =
     record {
       horizontal = eqb (flagsAt bytes % 2) 1;
       inplace = eqb (flagsAt bytes / 2 % 2) 1;
@@ -79,7 +79,7 @@ channelAllowed c metas = shiftsAllowed c && (not (isMeta c) || metas)
 unfoldable pub judgeChannelField : List ℕ → ℕ → Bool → ℕ
 judgeChannelField bytes channels metas =
     ask (ltb channels maxChannels) refusedCount
-    (ask (channelAllowed (channelOf bytes) metas) refusedForm 0)
+    (ask (channelAllowed (fieldChannel bytes) metas) refusedForm 0)
 
 unfoldable pub judgeStepField : List ℕ → ℕ → ℕ
 judgeStepField bytes steps =
@@ -95,7 +95,7 @@ judgeField bytes channels metas steps =
 -- ---- the fields
 -- at the end: 3. "Are there 1 .. channels"
 abbrev pub finished : List Channel → List Step → Form
-finished cs ss = asked (leb 1 (length cs)) 3 (record { answer = 0; channels = cs; steps = ss })
+finished cs ss = asked (leb 1 (length cs)) refusedCount (record { answer = 0; channels = cs; steps = ss })
 
 -- the first field's answer, after the channels cs and the steps ss
 abbrev pub answerOf : List ℕ → List Channel → List Step → ℕ
@@ -108,8 +108,8 @@ readFields (suc turns) bytes cs ss =
     cond (eqb (length bytes) 0) (finished cs ss)
     (asked (eqb (answerOf bytes cs ss) 0) (answerOf bytes cs ss)
     (cond (isStep bytes)
-    (readFields turns (drop (stepSize) bytes) cs (ss ++ (stepOf bytes ∷ [])))
-    (readFields turns (drop (channelSize) bytes) (cs ++ (channelOf bytes ∷ [])) ss)))
+    (readFields turns (drop (stepSize) bytes) cs (ss ++ (fieldStep bytes ∷ [])))
+    (readFields turns (drop (channelSize) bytes) (cs ++ (fieldChannel bytes ∷ [])) ss)))
 
 unfoldable pub formOf : List ℕ → Form
 formOf bytes = readFields (length bytes) bytes [] []

@@ -6,14 +6,16 @@ use Prim.Native.Nat.{ℕ}
 use lib.Dec.{eqb, leb}
 use lib.ListN.{length, drop}
 use Rattle.numbers.specs.Numbers.{refusedLength}
+use Rattle.channel.specs.declared.Channel.{Channel}
 use Rattle.list.specs.declared.ChannelList.{ChannelList}
+use Rattle.list.specs.declared.Step.{Step}
 use Rattle.list.specs.Lists as Lists
 use Rattle.list.specs.Lists.{channels}
 use Rattle.list.specs.Questions.{ask}
 use Rattle.plan.specs.declared.Steps.{Steps}
 use Rattle.plan.specs.Steps as S
 use Rattle.plan.specs.Steps.{steps}
-use Rattle.plan.specs.Plans.{judgePlan}
+use Rattle.plan.specs.Plans.{meant, steppedAll, judgePlan}
 use Rattle.record.specs.declared.Record.{Record}
 use Rattle.record.specs.declared.Written.{Written}
 use Rattle.record.specs.Bytes.{recordOf}
@@ -35,6 +37,16 @@ readOf bytes =
     cond (eqb (readAnswer bytes) 0)
     (record { answer = 0; list = Lists.packed (formOf bytes .channels); steps = S.packed (formOf bytes .steps) })
     (record { answer = readAnswer bytes; list = Lists.packed []; steps = S.packed [] })
+
+-- its channels, its steps ("An empty list of steps means the default plan") and the list that they leave
+abbrev pub channelsOf : List ℕ → List Channel
+channelsOf bytes = formOf bytes .channels
+
+abbrev pub stepsOf : List ℕ → List Step
+stepsOf bytes = meant (formOf bytes .steps) (channelsOf bytes)
+
+abbrev pub reachedOf : List ℕ → List Channel
+reachedOf bytes = steppedAll (stepsOf bytes) (channelsOf bytes)
 
 -- ---- the writer: questions 3 to 11, then 14: "a slice for the record at least the bytes needed"
 abbrev pub recordFor : ChannelList → Steps → List ℕ

@@ -91,9 +91,9 @@ fn is_step(bytes: &[u8]) -> bool
 }
 
 // A field's channel.
-fn channel_of(bytes: &[u8]) -> Channel
+fn field_channel(bytes: &[u8]) -> Channel
     requires { ⌜ Bytes.channelSize ≤ length (now bytes) ⌝ }
-    ensures { λ r. ⌜ r ≡ Reading.channelOf (now (bytes .entry)) ⌝ }
+    ensures { λ r. ⌜ r ≡ Reading.fieldChannel (now (bytes .entry)) ⌝ }
 {
     Channel {
         width: word(bytes[3], bytes[4]),
@@ -112,7 +112,7 @@ fn judge_channel(bytes: &[u8], channels: usize, metas: bool) -> u32
     if ChannelList::MAX_CHANNELS <= channels {
         return REFUSED_COUNT;
     }
-    let c = channel_of(bytes);
+    let c = field_channel(bytes);
     if !(c.has_shifts_allowed() & (!c.is_meta() | metas)) {
         return REFUSED_FORM;
     }
@@ -168,7 +168,7 @@ fn with_channel(list: ChannelList, c: Channel) -> ChannelList
 // The steps with a field's step, which passes questions 3 and 4.
 fn with_step(steps: Steps, bytes: &[u8]) -> Steps
     requires { ⌜ (Bytes.stepSize ≤ length (now bytes)) × (Reading.judgeStepField (now bytes) (steps .count) ≡ 0) ⌝ }
-    ensures { λ r. ⌜ r ≡ pushed steps (Reading.stepOf (now (bytes .entry))) ⌝ }
+    ensures { λ r. ⌜ r ≡ pushed steps (Reading.fieldStep (now (bytes .entry))) ⌝ }
 {
     let k = steps.count;
     let mut next = steps;
@@ -209,7 +209,7 @@ fn read_form(bytes: &[u8]) -> Record
             steps = with_step(steps, field);
             at += STEP_SIZE;
         } else {
-            let c = channel_of(field);
+            let c = field_channel(field);
             metas = c.is_meta();
             list = with_channel(list, c);
             at += CHANNEL_SIZE;
@@ -286,13 +286,18 @@ fn step_field(step: Step) -> [u8; STEP_SIZE]
     ]
 }
 
-// A field's bytes into `out` from `at` on.
-fn store(field: &[u8], at: usize, out: &mut [u8])
-    requires { ⌜ at + length (now field) ≤ length (now out) ⌝ }
-    ensures { λ _. ⌜ now (out .exit) ≡ Bytes.placed (now (out .entry)) at (now (field .entry)) ⌝ }
+// `bytes` over `out` from `at` on where it has room for them, else nothing.
+pub fn put_bytes(bytes: &[u8], at: usize, out: &mut [u8])
+    ensures { λ _. ⌜ now (out .exit) ≡ Bytes.putBytes (now (out .entry)) at (now (bytes .entry)) ⌝ }
 {
-    for k in 0..field.len() {
-        out[at + k] = field[k];
+    if out.len() < at {
+        return;
+    }
+    if out.len() - at < bytes.len() {
+        return;
+    }
+    for k in 0..bytes.len() {
+        out[at + k] = bytes[k];
     }
 }
 
@@ -305,7 +310,7 @@ fn write_channels(list: ChannelList, out: &mut [u8])
     let mut at = 0;
     for k in 0..count {
         let field = channel_field(list.channel(k));
-        store(&field, at, out);
+        put_bytes(&field, at, out);
         at += CHANNEL_SIZE;
     }
 }
@@ -319,7 +324,7 @@ fn write_steps(steps: Steps, start: usize, out: &mut [u8])
     let mut at = start;
     for k in 0..count {
         let field = step_field(steps.step(k));
-        store(&field, at, out);
+        put_bytes(&field, at, out);
         at += STEP_SIZE;
     }
 }

@@ -4,6 +4,7 @@ use mathlib.Core.Bool.{true}
 use mathlib.Core.Path.{_≡_, refl}
 use Prim.Native.Nat.{ℕ, zero, suc, _+_, _*_, _<_}
 use native.Mathlib.Omega.{arith}
+use Rattle.numbers.specs.Numbers.{refusedTile}
 use Rattle.channel.specs.declared.Channel.{Channel}
 use Rattle.channel.specs.Channel.{shiftsAllowed}
 use Rattle.rect.specs.declared.GridRect.{GridRect}
@@ -22,7 +23,7 @@ pub record Unnamed (n : ℕ) : Type 0 where
   pub hfOnHf : n ≡ number 2 2 → ⊥
 
 module _ (c : Channel) (group gx gy : ℕ) where
-  others : (output stored : ℕ) → Unnamed (number output stored) → refused 14 ≡ byKinds output stored c group gx gy
+  others : (output stored : ℕ) → Unnamed (number output stored) → refused refusedTile ≡ byKinds output stored c group gx gy
   unfolding byKinds
   others zero zero u = absurd (u .none refl)
   others zero (suc stored) u = refl
@@ -49,5 +50,5 @@ module _ (c : Channel) (output stored group gx gy : ℕ) (four : shiftsAllowed c
       let es : stored ≡ q = omega arith in
       by-kinds r (rw (eo, es) e)
 
-  pub last-arm : (r : GridRect) → Unnamed (number output stored) → r ≡ refused 14 → r ≡ rectOf c output stored group gx gy
+  pub last-arm : (r : GridRect) → Unnamed (number output stored) → r ≡ refused refusedTile → r ≡ rectOf c output stored group gx gy
   last-arm r u e = by-kinds r (rw e (others c group gx gy output stored u))

@@ -8,22 +8,22 @@ use borrow.Author.Tests.{eqb-false}
 use Rattle.channel.specs.declared.Channel.{Channel}
 use Rattle.channel.specs.Channel.{isMeta}
 use Rattle.rect.specs.declared.GridRect.{GridRect}
-use Rattle.rect.specs.Rect.{Origin, refused, tile, tileUnlessMeta}
+use Rattle.rect.specs.Rect.{StartRule, noTile, tile, tileUnlessMeta}
 use Rattle.rect.specs.Parts.{IsSpan}
 
 neither : (p q : Bool) → p || q ≡ false → (p ≡ false) × (q ≡ false)
 neither true q e = (e, (cc))
 neither false q e = (refl, e)
 
-module _ {origin : Origin} {dimension group gx gy x y width height : ℕ} (c : Channel) (plain : isMeta c ≡ false)
-    (across : IsSpan origin dimension group (c .width) (c .hshift) gx x width)
-    (down : IsSpan origin dimension group (c .height) (c .vshift) gy y height) where
-  pub empty : eqb width 0 || eqb height 0 ≡ true → refused 0 ≡ tileUnlessMeta origin dimension c group gx gy
+module _ {rule : StartRule} {dimension group gx gy x y width height : ℕ} (c : Channel) (plain : isMeta c ≡ false)
+    (across : IsSpan rule dimension group (c .width) (c .hshift) gx x width)
+    (down : IsSpan rule dimension group (c .height) (c .vshift) gy y height) where
+  pub empty : eqb width 0 || eqb height 0 ≡ true → noTile ≡ tileUnlessMeta rule dimension c group gx gy
   unfolding tile tileUnlessMeta
   empty e = rw (plain, ← (across .sized), ← (down .sized), e)
 
   pub filled : eqb width 0 || eqb height 0 ≡ false
-      → _≡_ {A = GridRect} (record { answer = 0; x = x; y = y; width = width; height = height }) (tileUnlessMeta origin dimension c group gx gy)
+      → _≡_ {A = GridRect} (record { answer = 0; x = x; y = y; width = width; height = height }) (tileUnlessMeta rule dimension c group gx gy)
   unfolding tile tileUnlessMeta
   filled e =
       let n = neither (eqb width 0) (eqb height 0) e in

@@ -23,6 +23,7 @@ tileSide dimension shift = dimension / 2 ^ shift
 abbrev pub sizeFrom : ℕ → ℕ → ℕ → ℕ
 sizeFrom side tile position = min (side - position * tile) tile
 
+-- a refusal's number with four zeros
 abbrev pub refused : ℕ → GridRect
 refused number = record { answer = number; x = 0; y = 0; width = 0; height = 0 }
 
@@ -30,36 +31,40 @@ refused number = record { answer = number; x = 0; y = 0; width = 0; height = 0 }
 unfoldable pub whole : Channel → GridRect
 whole c = record { answer = 0; x = 0; y = 0; width = c .width; height = c .height }
 
--- where a tile starts in what is stored, from the start in the channel and the LF tile side
+-- the rule by which a tile starts in what is stored, from the start in the channel and the LF tile side
 -- "Start (0, 0) when kinds are equal, the start itself when stored None, its remainder by the LF tile side for HF on LF"
-abbrev pub Origin : Type 0
-Origin = ℕ → ℕ → ℕ
+abbrev pub StartRule : Type 0
+StartRule = ℕ → ℕ → ℕ
 
-abbrev pub atZero : Origin
+abbrev pub atZero : StartRule
 atZero start lf = 0
 
-abbrev pub atStart : Origin
+abbrev pub atStart : StartRule
 atStart start lf = start
 
-abbrev pub withinLf : Origin
+abbrev pub withinLf : StartRule
 withinLf start lf = start % lf
 
--- the tile of a channel that is not meta; "If either is 0, all four numbers are 0"
-unfoldable pub tile : Origin → ℕ → Channel → ℕ → ℕ → ℕ → GridRect
-tile origin dimension c group gx gy =
+-- "If either is 0, all four numbers are 0"
+abbrev pub noTile : GridRect
+noTile = record { answer = 0; x = 0; y = 0; width = 0; height = 0 }
+
+-- the tile of a channel that is not meta
+unfoldable pub tile : StartRule → ℕ → Channel → ℕ → ℕ → ℕ → GridRect
+tile rule dimension c group gx gy =
     cond (eqb (sizeFrom (c .width) (tileSide dimension (c .hshift)) gx) 0 || eqb (sizeFrom (c .height) (tileSide dimension (c .vshift)) gy) 0)
-    (refused 0)
+    noTile
     (record {
       answer = 0;
-      x = origin (gx * tileSide dimension (c .hshift)) (tileSide (lfDimension group) (c .hshift));
-      y = origin (gy * tileSide dimension (c .vshift)) (tileSide (lfDimension group) (c .vshift));
+      x = rule (gx * tileSide dimension (c .hshift)) (tileSide (lfDimension group) (c .hshift));
+      y = rule (gy * tileSide dimension (c .vshift)) (tileSide (lfDimension group) (c .vshift));
       width = sizeFrom (c .width) (tileSide dimension (c .hshift)) gx;
       height = sizeFrom (c .height) (tileSide dimension (c .vshift)) gy;
     })
 
 -- "a meta channel unless None/None" is refused
-unfoldable pub tileUnlessMeta : Origin → ℕ → Channel → ℕ → ℕ → ℕ → GridRect
-tileUnlessMeta origin dimension c group gx gy = cond (isMeta c) (refused refusedTile) (tile origin dimension c group gx gy)
+unfoldable pub tileUnlessMeta : StartRule → ℕ → Channel → ℕ → ℕ → ℕ → GridRect
+tileUnlessMeta rule dimension c group gx gy = cond (isMeta c) (refused refusedTile) (tile rule dimension c group gx gy)
 
 -- "An answer is chosen by the pair of output kind and stored kind. Kinds are None (0), LF (1) and HF (2)"; "Other pairs are refused"
 unfoldable pub byKinds : ℕ → ℕ → Channel → ℕ → ℕ → ℕ → GridRect

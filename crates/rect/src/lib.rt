@@ -30,15 +30,26 @@ struct Span {
     size: u32,
 }
 
-// Where a tile starts in what is stored: at 0, at its start in the channel, or
-// at that start's place within the LF tile.
-enum Origin {
+// Where a tile starts in what is stored: at 0, at its start in the channel
+// itself, or at that start's place within the LF tile.
+enum StoredStart {
     Zero,
-    Start,
+    Itself,
     WithinLf,
 }
 
-// Four zeros, beside a refusal's number or beside 0 for an empty tile.
+fn no_tile() -> GridRect
+    ensures { λ r. ⌜ r ≡ Spec.noTile ⌝ }
+{
+    GridRect {
+        answer: 0,
+        x: 0,
+        y: 0,
+        width: 0,
+        height: 0,
+    }
+}
+
 fn refused(number: u32) -> GridRect
     ensures { λ r. ⌜ r ≡ Spec.refused number ⌝ }
 {
@@ -88,22 +99,29 @@ fn size_from(side: u16, start: u32, tile: u32) -> u32
     if left < tile { left } else { tile }
 }
 
-fn start_in(origin: Origin, start: u32, lf: u32) -> u32
+fn start_in(rule: StoredStart, start: u32, lf: u32) -> u32
     requires { ⌜ 0 < lf ⌝ }
-    ensures { λ r. ⌜ r ≡ Parts.originOf origin start lf ⌝ }
+    ensures { λ r. ⌜ r ≡ Parts.ruleOf rule start lf ⌝ }
 {
-    match origin {
-        Origin::Zero => 0,
-        Origin::Start => start,
-        Origin::WithinLf => start % lf,
+    match rule {
+        StoredStart::Zero => 0,
+        StoredStart::Itself => start,
+        StoredStart::WithinLf => start % lf,
     }
 }
 
 // One direction of a tile. Only one that is not empty has an LF tile above 0,
 // and so a start.
-fn span_of(origin: Origin, dimension: u32, group: u32, side: u16, shift: u8, position: u16) -> Span
+fn span_of(
+    rule: StoredStart,
+    dimension: u32,
+    group: u32,
+    side: u16,
+    shift: u8,
+    position: u16,
+) -> Span
     requires { ⌜ Parts.Dimensions dimension group × (shift ≤ maxShift) ⌝ }
-    ensures { λ r. ⌜ Parts.IsSpan (Parts.originOf origin) dimension group side shift position (r .start) (r .size) ⌝ }
+    ensures { λ r. ⌜ Parts.IsSpan (Parts.ruleOf rule) dimension group side shift position (r .start) (r .size) ⌝ }
 {
     let tile = tile_side(dimension, shift);
     let start = (position as u32) * tile;
@@ -113,22 +131,29 @@ fn span_of(origin: Origin, dimension: u32, group: u32, side: u16, shift: u8, pos
     }
     let lf = tile_side(LF_GROUPS * group, shift);
     Span {
-        start: start_in(origin, start, lf),
+        start: start_in(rule, start, lf),
         size,
     }
 }
 
-fn tile(origin: Origin, dimension: u32, channel: Channel, group: u32, gx: u16, gy: u16) -> GridRect
+fn tile(
+    rule: StoredStart,
+    dimension: u32,
+    channel: Channel,
+    group: u32,
+    gx: u16,
+    gy: u16,
+) -> GridRect
     requires { ⌜ Parts.Dimensions dimension group × (shiftsAllowed channel ≡ true) ⌝ }
-    ensures { λ r. ⌜ r ≡ Spec.tileUnlessMeta (Parts.originOf origin) dimension channel group gx gy ⌝ }
+    ensures { λ r. ⌜ r ≡ Spec.tileUnlessMeta (Parts.ruleOf rule) dimension channel group gx gy ⌝ }
 {
     if channel.is_meta() {
         return refused(REFUSED_TILE);
     }
-    let across = span_of(origin, dimension, group, channel.width, channel.hshift, gx);
-    let down = span_of(origin, dimension, group, channel.height, channel.vshift, gy);
+    let across = span_of(rule, dimension, group, channel.width, channel.hshift, gx);
+    let down = span_of(rule, dimension, group, channel.height, channel.vshift, gy);
     if (across.size == 0) | (down.size == 0) {
-        return refused(0);
+        return no_tile();
     }
     GridRect {
         answer: 0,
@@ -161,11 +186,11 @@ pub fn get_grid_rect(
     let lf = LF_GROUPS * group;
     match (output as u32) * 0x100 + (stored as u32) {
         0x000 => whole(channel),
-        0x100 => tile(Origin::Start, lf, channel, group, gx, gy),
-        0x101 => tile(Origin::Zero, lf, channel, group, gx, gy),
-        0x200 => tile(Origin::Start, group, channel, group, gx, gy),
-        0x201 => tile(Origin::WithinLf, group, channel, group, gx, gy),
-        0x202 => tile(Origin::Zero, group, channel, group, gx, gy),
+        0x100 => tile(StoredStart::Itself, lf, channel, group, gx, gy),
+        0x101 => tile(StoredStart::Zero, lf, channel, group, gx, gy),
+        0x200 => tile(StoredStart::Itself, group, channel, group, gx, gy),
+        0x201 => tile(StoredStart::WithinLf, group, channel, group, gx, gy),
+        0x202 => tile(StoredStart::Zero, group, channel, group, gx, gy),
         _ => refused(REFUSED_TILE),
     }
 }

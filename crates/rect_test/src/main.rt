@@ -3,7 +3,6 @@
 // how many came out right.
 use channel::Channel;
 use libc::STDIN_FILENO;
-use libc::STDOUT_FILENO;
 use rect::GridRect;
 use samples::word_at;
 
@@ -72,9 +71,5 @@ fn main() {
     let mut buffer = [0u8; 524288];
     let n = io::read_full(STDIN_FILENO, &mut buffer);
     let bytes = &buffer[..n];
-    io::write_all(STDOUT_FILENO, b"rects ");
-    io::print_decimal(STDOUT_FILENO, (bytes.len() / CASE) as u64);
-    io::write_all(STDOUT_FILENO, b" right ");
-    io::print_decimal(STDOUT_FILENO, cases_agree(bytes));
-    io::write_all(STDOUT_FILENO, b"\n");
+    replay::say(b"rects ", (n / CASE) as u64, cases_agree(bytes));
 }

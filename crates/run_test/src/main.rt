@@ -6,10 +6,14 @@
 // came out right.
 ghost use Prim.Native.Nat.{_<_, _≤_};
 ghost use lib.ListN.{length};
-use libc::STDIN_FILENO;
-use libc::STDOUT_FILENO;
 use numbers::REFUSED_LENGTH;
-use samples::sample_at;
+use replay::read_case;
+use replay::read_word;
+use replay::say;
+use samples::decode;
+use samples::fill;
+use samples::kept;
+use samples::same;
 use samples::word_at;
 
 // The head of a case, by bytes: the answer, the record's length in bytes and the
@@ -60,62 +64,6 @@ fn length_of(case: &[u8], k: usize) -> usize
     word_at(case, LENGTHS + 4 * k) as usize
 }
 
-// What stands at index i of a room where nothing was written.
-fn mark(i: usize) -> i32 {
-    (1_515_870_000 + i % 1021) as i32
-}
-
-fn fill(s: &mut [i32], to: usize) {
-    if s.len() < to {
-        return;
-    }
-    for i in 0..to {
-        s[i] = mark(i);
-    }
-}
-
-// Whether nothing was written from `from` to `to`.
-fn kept(s: &[i32], from: usize, to: usize) -> bool {
-    if s.len() < to {
-        return false;
-    }
-    let mut right = true;
-    for i in from..to {
-        right = right & (s[i] == mark(i));
-    }
-    right
-}
-
-fn all_zero(s: &[i32]) -> bool {
-    let mut right = true;
-    for i in 0..s.len() {
-        right = right & (s[i] == 0);
-    }
-    right
-}
-
-// Fills s up to `to` with the samples in `bytes`, and zeros past their end.
-fn decode(bytes: &[u8], s: &mut [i32], to: usize) {
-    if s.len() < to {
-        return;
-    }
-    for i in 0..to {
-        s[i] = sample_at(bytes, 4 * i);
-    }
-}
-
-// Whether s up to `to` has the samples in `bytes`, and zeros past their end.
-fn same(bytes: &[u8], s: &[i32], to: usize) -> bool {
-    if s.len() < to {
-        return false;
-    }
-    let mut right = true;
-    for i in 0..to {
-        right = right & (s[i] == sample_at(bytes, 4 * i));
-    }
-    right
-}
-
 fn answer_of(
     rebuilds: bool,
     bytes: &[u8],
@@ -142,7 +90,15 @@ fn rooms_right(call: Call, wanted: &[u8], filled: &[i32], work: &[i32]) -> bool
     }
     let around = kept(filled, 0, GUARD) & kept(filled, f, f + GUARD);
     let beside = kept(work, 0, GUARD) & kept(work, w, w + GUARD);
-    around & beside & same(wanted, &filled[GUARD..], f - GUARD) & all_zero(&work[GUARD..w])
+    around & beside & same(wanted, &filled[GUARD..f]) & same(b"", &work[GUARD..w])
+}
+
+// Marks a room as far as a lent slice with its guards reaches.
+fn fill_room(room: &mut [i32], lent: usize)
+    requires { ⌜ (lent ≤ 131_040) × (131_072 ≤ length (now room)) ⌝ }
+{
+    let to = GUARD + lent + GUARD;
+    fill(&mut room[0..to]);
 }
 
 // Whether a call gives its answer and leaves every slice as it must.
@@ -160,9 +116,9 @@ fn call_right(
     let r = call.read;
     let f = GUARD + call.filled;
     let w = GUARD + call.work;
-    decode(given, source, r);
-    fill(filled, f + GUARD);
-    fill(work, w + GUARD);
+    decode(given, &mut source[0..r]);
+    fill_room(filled, call.filled);
+    fill_room(work, call.work);
     let answered = answer_of(
         call.rebuilds,
         bytes,
@@ -171,7 +127,7 @@ fn call_right(
         &mut work[GUARD..w],
     );
     let rooms = rooms_right(call, wanted, filled, work);
-    (answered == call.answer) & same(given, source, r) & rooms
+    (answered == call.answer) & same(given, &source[0..r]) & rooms
 }
 
 // The length of slice `k` in a trial, where the case says n. One sample short of
@@ -285,28 +241,6 @@ fn agrees(case: &[u8], source: &mut [i32], filled: &mut [i32], work: &mut [i32])
     whole(case) & rebuilt & written
 }
 
-// The next number of standard input; past its end 0.
-fn read_word() -> u32 {
-    let mut bytes = [0u8; 4];
-    io::read_full(STDIN_FILENO, &mut bytes);
-    word_at(&bytes, 0)
-}
-
-// Puts the next case at the start of `space`; how many bytes it has, or 0 if it
-// is not whole.
-fn read_case(space: &mut [u8]) -> usize
-    ensures { λ r. ⌜ r ≤ length (now (space .entry)) ⌝ }
-{
-    let n = read_word() as usize;
-    if space.len() < n {
-        return 0;
-    }
-    if io::read_full(STDIN_FILENO, &mut space[0..n]) < n {
-        return 0;
-    }
-    n
-}
-
 // Replays the next cases of standard input, one after the other in the same rooms;
 // how many are right.
 fn replay_in(
@@ -349,12 +283,7 @@ fn replay(cases: u32) -> u64 {
 // Replays the cases of the next kind and says how many are right.
 fn kind(name: &[u8]) {
     let cases = read_word();
-    let right = replay(cases);
-    io::write_all(STDOUT_FILENO, name);
-    io::print_decimal(STDOUT_FILENO, cases as u64);
-    io::write_all(STDOUT_FILENO, b" right ");
-    io::print_decimal(STDOUT_FILENO, right);
-    io::write_all(STDOUT_FILENO, b"\n");
+    say(name, cases as u64, replay(cases));
 }
 
 fn main() {

@@ -15,3 +15,7 @@ wordAt bytes at = byteAt bytes at + 0x100 * byteAt bytes (at + 1) + 0x1_0000 * b
 
 unfoldable pub sampleAt : List ℕ → ℕ → ℤ
 sampleAt bytes at = wrap (pos (wordAt bytes at))
+
+-- sample k of those stored one after the other
+abbrev pub stored : List ℕ → ℕ → ℤ
+stored bytes k = sampleAt bytes (4 * k)

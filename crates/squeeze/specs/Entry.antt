@@ -7,22 +7,11 @@ use lib.Dec.{eqb}
 use lib.IntN.{ℤ}
 use lib.ListN.{length}
 use Rattle.numbers.specs.Numbers.{refusedLength}
-use Rattle.channel.specs.declared.Channel.{Channel}
-use Rattle.list.specs.declared.Step.{Step}
 use Rattle.list.specs.Lists.{total}
 use Rattle.list.specs.Questions.{ask}
-use Rattle.plan.specs.Plans.{meant}
-use Rattle.record.specs.Reading.{formOf}
-use Rattle.record.specs.Records.{readAnswer}
+use Rattle.record.specs.Records.{readAnswer, channelsOf, stepsOf}
 use Rattle.buffer.specs.Buffer.{zeros}
 use Rattle.runs.specs.Runs.{rebuilt, squeezed}
-
--- the record's channels, and the steps of its plan, the default plan's where it has none
-abbrev pub channelsOf : List ℕ → List Channel
-channelsOf bytes = formOf bytes .channels
-
-abbrev pub stepsOf : List ℕ → List Step
-stepsOf bytes = meant (formOf bytes .steps) (channelsOf bytes)
 
 -- 14. "Has each sample slice exactly its length"
 abbrev pub fits : List ℕ → List ℤ → Bool

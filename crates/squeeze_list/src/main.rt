@@ -1,16 +1,17 @@
-// The program squeeze-list (document 01): lists the record that the first 4,096
-// bytes of standard input are. The listing always has room.
+// The program squeeze-list (document 01): prints what crate `listing` gives for
+// the bytes of standard input. More are read than are judged, so that the cut is
+// made there.
 use libc::STDIN_FILENO;
 use libc::STDOUT_FILENO;
+use listing::JUDGED_BYTES;
 use listing::LISTING_ROOM;
 
-// The bytes of standard input that are judged.
-const RECORD_ROOM: usize = 4096;
+const INPUT_ROOM: usize = 2 * JUDGED_BYTES;
 
 fn main() {
-    let mut record = [0u8; RECORD_ROOM];
-    let count = io::read_full(STDIN_FILENO, &mut record);
+    let mut input = [0u8; INPUT_ROOM];
+    let count = io::read_full(STDIN_FILENO, &mut input);
     let mut text = [0u8; LISTING_ROOM];
-    let length = listing::list_record(&record[..count], &mut text).length;
+    let length = listing::list_input(&input[..count], &mut text);
     io::write_all(STDOUT_FILENO, &text[..length]);
 }

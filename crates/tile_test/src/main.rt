@@ -5,9 +5,13 @@
 // were and how many came out right.
 ghost use Prim.Native.Nat.{_<_, _≤_};
 ghost use lib.ListN.{length};
-use libc::STDIN_FILENO;
-use libc::STDOUT_FILENO;
-use samples::sample_at;
+use replay::read_case;
+use replay::read_word;
+use replay::say;
+use samples::decode;
+use samples::fill;
+use samples::kept;
+use samples::same;
 use samples::word_at;
 
 // The head of a case, by bytes: the answer, the direction, six sides of eight
@@ -67,51 +71,6 @@ fn whole(case: &[u8]) -> bool {
     }
 }
 
-// What stands at index i of the room where nothing was written.
-fn mark(i: usize) -> i32 {
-    (1_515_870_000 + i % 1021) as i32
-}
-
-fn fill(s: &mut [i32]) {
-    for i in 0..s.len() {
-        s[i] = mark(i);
-    }
-}
-
-// Whether nothing was written from `from` to `to`.
-fn kept(s: &[i32], from: usize, to: usize) -> bool {
-    if s.len() < to {
-        return false;
-    }
-    let mut right = true;
-    for i in from..to {
-        right = right & (s[i] == mark(i));
-    }
-    right
-}
-
-// Fills s with the samples that start at `at`.
-fn decode(bytes: &[u8], at: usize, s: &mut [i32]) {
-    if bytes.len() < at {
-        return;
-    }
-    for i in 0..s.len() {
-        s[i] = sample_at(bytes, at + 4 * i);
-    }
-}
-
-// Whether s has the samples that start at `at`.
-fn same(bytes: &[u8], at: usize, s: &[i32]) -> bool {
-    if bytes.len() < at {
-        return false;
-    }
-    let mut right = true;
-    for i in 0..s.len() {
-        right = right & (s[i] == sample_at(bytes, at + 4 * i));
-    }
-    right
-}
-
 fn call<'a>(
     case: &[u8],
     avg: &'a [i32],
@@ -157,57 +116,36 @@ fn answers(case: &[u8], slices: &[i32], out: &mut [i32]) -> bool {
     answer == word_at(case, ANSWER)
 }
 
-// Whether the room holds the case's output from `from` to `to`, and nothing was
-// written around it.
-fn output_right(case: &[u8], room: &[i32], from: usize, to: usize) -> bool
+// Whether the room holds the wanted output from `from` to `to`, or after a refusal
+// what stood there, and nothing was written around it.
+fn output_right(answer: u32, wanted: &[u8], room: &[i32], from: usize, to: usize) -> bool
     requires { ⌜ (from ≤ to) × (to ≤ length (now room)) ⌝ }
 {
-    if !kept(room, 0, from) | !kept(room, to, room.len()) {
-        return false;
+    if answer != 0 {
+        return kept(room, 0, room.len());
     }
-    if word_at(case, ANSWER) == 0 {
-        same(case, HEAD + 4 * given(case), &room[from..to])
-    } else {
-        kept(room, from, to)
-    }
+    kept(room, 0, from) & same(wanted, &room[from..to]) & kept(room, to, room.len())
 }
 
 // Whether the call of a case gives its answer and its output.
 fn agrees(case: &[u8], slices: &mut [i32], room: &mut [i32]) -> bool {
     let n = given(case);
+    let start = HEAD + 4 * n;
     let to = GUARD + length_of(case, 4);
+    if case.len() < start {
+        return false;
+    }
     if slices.len() < n {
         return false;
     }
     if room.len() < to + GUARD {
         return false;
     }
-    decode(case, HEAD, &mut slices[0..n]);
+    decode(&case[HEAD..start], &mut slices[0..n]);
     fill(room);
     let answered = answers(case, slices, &mut room[GUARD..to]);
-    answered & whole(case) & output_right(case, room, GUARD, to)
-}
-
-// The next number of standard input; past its end 0.
-fn read_word() -> u32 {
-    let mut bytes = [0u8; 4];
-    io::read_full(STDIN_FILENO, &mut bytes);
-    word_at(&bytes, 0)
-}
-
-// Puts the next case at the start of `space`; how many bytes it has, or 0 if it
-// is not whole.
-fn read_case(space: &mut [u8]) -> usize
-    ensures { λ r. ⌜ r ≤ length (now (space .entry)) ⌝ }
-{
-    let n = read_word() as usize;
-    if space.len() < n {
-        return 0;
-    }
-    if io::read_full(STDIN_FILENO, &mut space[0..n]) < n {
-        return 0;
-    }
-    n
+    let left = output_right(word_at(case, ANSWER), &case[start..], room, GUARD, to);
+    answered & whole(case) & left
 }
 
 // Replays the next cases of standard input; how many are right.
@@ -231,12 +169,7 @@ fn replay(cases: u32) -> u64 {
 // Replays the cases of the next kind and says how many are right.
 fn kind(name: &[u8]) {
     let cases = read_word();
-    let right = replay(cases);
-    io::write_all(STDOUT_FILENO, name);
-    io::print_decimal(STDOUT_FILENO, cases as u64);
-    io::write_all(STDOUT_FILENO, b" right ");
-    io::print_decimal(STDOUT_FILENO, right);
-    io::write_all(STDOUT_FILENO, b"\n");
+    say(name, cases as u64, replay(cases));
 }
 
 fn main() {

@@ -4,8 +4,8 @@ use mathlib.Core.List.{List, []}
 use borrow.Author.Needs.{needs}
 use lib.IntN.{ℤ}
 use lib.ListN.{getD}
-use Rattle.block.specs.Block.{blockAt, withBlock, unsqueezed}
-use Rattle.probe.specs.Probe.{blocks}
+use Rattle.block.specs.Block.{unsqueezed}
+use Rattle.probe.specs.Probe.{blockAt, withBlock, blocks}
 use Rattle.probe.proofs.probe_block.Statement.{statement}
 use Rattle.probe.proofs.probe_block.Tie as tie
 

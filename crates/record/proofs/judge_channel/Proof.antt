@@ -12,8 +12,8 @@ returns : tie.Need-returns
 unfolding judgeChannelField
 returns c = rw (le-ltb _ maxChannels (c .if1 .taken))
 
-channel-of-requires : tie.Need-channel-of-requires
-channel-of-requires c κs = search needs
+field-channel-requires : tie.Need-field-channel-requires
+field-channel-requires c κs = search needs
 
 has-shifts-allowed-requires : tie.Need-has-shifts-allowed-requires
 has-shifts-allowed-requires c κs = search needs
@@ -27,7 +27,7 @@ returns-2 c =
     let m = c .before in
     let q = m .before .before in
     let g = q .before .before .before .args in
-    let a = channel-asked (g .bytes .now) (q .channel-of .result) (g .metas) _ _ (q .channel-of .ensures) (m .before .has-shifts-allowed .ensures) (m .is-meta .ensures) in
+    let a = channel-asked (g .bytes .now) (q .field-channel .result) (g .metas) _ _ (q .field-channel .ensures) (m .before .has-shifts-allowed .ensures) (m .is-meta .ensures) in
     rw (lt-ltb _ maxChannels (q .before .if1 .left), no a (c .if2 .taken))
 
 returns-3 : tie.Need-returns-3
@@ -36,7 +36,7 @@ returns-3 c =
     let m = c .before in
     let q = m .before .before in
     let g = q .before .before .before .args in
-    let a = channel-asked (g .bytes .now) (q .channel-of .result) (g .metas) _ _ (q .channel-of .ensures) (m .before .has-shifts-allowed .ensures) (m .is-meta .ensures) in
+    let a = channel-asked (g .bytes .now) (q .field-channel .result) (g .metas) _ _ (q .field-channel .ensures) (m .before .has-shifts-allowed .ensures) (m .is-meta .ensures) in
     rw (lt-ltb _ maxChannels (q .before .if1 .left), yes a (c .if2 .left))
 
 pub judge-channel-spec : {M : Type 1} → statement M
@@ -44,7 +44,7 @@ judge-channel-spec =
     tie.close
     (tie.spec
     returns
-    channel-of-requires
+    field-channel-requires
     has-shifts-allowed-requires
     is-meta-requires
     returns-2

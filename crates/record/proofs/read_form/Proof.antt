@@ -69,8 +69,8 @@ add-at c = omega (arith, loop-again c .inside)
 loop-less : tie.Need-loop-less Inv-loop μ-loop
 loop-less c = omega (arith, loop-again c .inside)
 
-channel-of-requires : tie.Need-channel-of-requires Inv-loop μ-loop
-channel-of-requires c κs =
+field-channel-requires : tie.Need-field-channel-requires Inv-loop μ-loop
+field-channel-requires c κs =
     let j = c .before .before .before in
     is-channel _ _ _ _ (sym (j .judge-field .ensures) ∙ c .before .before .if1 .left) (sym (c .before .is-step .ensures) ∙ c .if2 .left) .long
 
@@ -90,7 +90,7 @@ loop-again-2 c =
     let j = e .before .before .before in
     let q = j .before .before .before in
     held-channel _ _ _ _ _ (q .loop .inv) (j .before .before .loop-test .taken) _ refl _ (j .judge-field .ensures) (e .before .before .if1 .left) _ _ _
-    (sym (e .before .is-step .ensures) ∙ e .if2 .left) (c .before .before .channel-of .ensures) (c .with-channel .ensures) (c .before .is-meta .ensures)
+    (sym (e .before .is-step .ensures) ∙ e .if2 .left) (c .before .before .field-channel .ensures) (c .with-channel .ensures) (c .before .is-meta .ensures)
 
 add-at-2 : tie.Need-add-at-2 Inv-loop μ-loop
 add-at-2 c = omega (arith, loop-again-2 c .inside)
@@ -131,7 +131,7 @@ read-form-spec =
     add-at
     loop-less
     loop-again
-    channel-of-requires
+    field-channel-requires
     is-meta-requires
     with-channel-requires
     add-at-2

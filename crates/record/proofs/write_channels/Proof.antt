@@ -30,10 +30,10 @@ channel-requires c κs = search needs
 channel-field-requires : tie.Need-channel-field-requires Inv-loop μ-loop
 channel-field-requires c κs = search needs
 
-slice-aggregate-store : tie.Need-slice-aggregate-store Inv-loop μ-loop
-slice-aggregate-store c = search needs
+slice-aggregate-put-bytes : tie.Need-slice-aggregate-put-bytes Inv-loop μ-loop
+slice-aggregate-put-bytes c = search needs
 
-room : (c : tie.After-store-arg Inv-loop μ-loop) → c .before .before .before .before .before .loop .at + length (c .before .before .channel-field .result)
+room : (c : tie.After-put-bytes-arg Inv-loop μ-loop) → c .before .before .before .before .before .loop .at + length (c .before .before .channel-field .result)
     ≤ length (c .before .before .before .before .before .loop .out)
 room c =
     let f = c .before .before in
@@ -41,8 +41,8 @@ room c =
     putting-room channelField (channelAt (q .before .before .args .list)) _ _ 0 _ (omega (arith, q .before .before .pre .1))
     _ _ _ (q .loop .inv) (f .before .before .loop-test .taken) _ (f .channel-field .ensures ∙ ap channelField (f .before .channel .ensures))
 
-store-requires : tie.Need-store-requires Inv-loop μ-loop
-store-requires c κs = room c
+put-bytes-requires : tie.Need-put-bytes-requires Inv-loop μ-loop
+put-bytes-requires c κs = search needs
 
 add-at : tie.Need-add-at Inv-loop μ-loop
 add-at c =
@@ -64,7 +64,7 @@ loop-again c =
     let f = a .before .before in
     let q = f .before .before .before in
     putting-more channelField (channelAt (q .before .before .args .list)) _ _ 0 _ (omega (arith, q .before .before .pre .1))
-    _ _ _ (q .loop .inv) (f .before .before .loop-test .taken) _ (f .channel-field .ensures ∙ ap channelField (f .before .channel .ensures)) _ channelSize (c .before .before .store .ensures) (search needs)
+    _ _ _ (q .loop .inv) (f .before .before .loop-test .taken) _ (f .channel-field .ensures ∙ ap channelField (f .before .channel .ensures)) _ channelSize (c .before .before .put-bytes .ensures) (search needs)
 
 same-length : tie.Need-same-length Inv-loop μ-loop
 same-length c =
@@ -87,8 +87,8 @@ write-channels-spec =
     loop-holds
     channel-requires
     channel-field-requires
-    slice-aggregate-store
-    store-requires
+    slice-aggregate-put-bytes
+    put-bytes-requires
     add-at
     add-k
     loop-less

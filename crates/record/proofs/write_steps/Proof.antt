@@ -31,10 +31,10 @@ step-requires c κs = search needs
 step-field-requires : tie.Need-step-field-requires Inv-loop μ-loop
 step-field-requires c κs = search needs
 
-slice-aggregate-store : tie.Need-slice-aggregate-store Inv-loop μ-loop
-slice-aggregate-store c = search needs
+slice-aggregate-put-bytes : tie.Need-slice-aggregate-put-bytes Inv-loop μ-loop
+slice-aggregate-put-bytes c = search needs
 
-room : (c : tie.After-store-arg Inv-loop μ-loop) → c .before .before .before .before .before .loop .at + length (c .before .before .step-field .result)
+room : (c : tie.After-put-bytes-arg Inv-loop μ-loop) → c .before .before .before .before .before .loop .at + length (c .before .before .step-field .result)
     ≤ length (c .before .before .before .before .before .loop .out)
 room c =
     let f = c .before .before in
@@ -42,8 +42,8 @@ room c =
     putting-room stepField (stepAt (q .before .before .args .steps)) _ _ (q .before .before .args .start) _ (q .before .before .pre .1)
     _ _ _ (q .loop .inv) (f .before .before .loop-test .taken) _ (f .step-field .ensures ∙ ap stepField (f .before .step .ensures))
 
-store-requires : tie.Need-store-requires Inv-loop μ-loop
-store-requires c κs = room c
+put-bytes-requires : tie.Need-put-bytes-requires Inv-loop μ-loop
+put-bytes-requires c κs = search needs
 
 add-at : tie.Need-add-at Inv-loop μ-loop
 add-at c =
@@ -65,7 +65,7 @@ loop-again c =
     let f = a .before .before in
     let q = f .before .before .before in
     putting-more stepField (stepAt (q .before .before .args .steps)) _ _ (q .before .before .args .start) _ (q .before .before .pre .1)
-    _ _ _ (q .loop .inv) (f .before .before .loop-test .taken) _ (f .step-field .ensures ∙ ap stepField (f .before .step .ensures)) _ stepSize (c .before .before .store .ensures) (search needs)
+    _ _ _ (q .loop .inv) (f .before .before .loop-test .taken) _ (f .step-field .ensures ∙ ap stepField (f .before .step .ensures)) _ stepSize (c .before .before .put-bytes .ensures) (search needs)
 
 same-length : tie.Need-same-length Inv-loop μ-loop
 same-length c =
@@ -88,8 +88,8 @@ write-steps-spec =
     loop-holds
     step-requires
     step-field-requires
-    slice-aggregate-store
-    store-requires
+    slice-aggregate-put-bytes
+    put-bytes-requires
     add-at
     add-k
     loop-less

@@ -9,64 +9,46 @@ use Rattle.record_test.proofs.replay.Statement.{statement}
 use Rattle.record_test.proofs.replay.Tie as tie
 
 abbrev Inv-loop : tie.InvT-loop
-Inv-loop cases bytes₀ text₀ room₀ right₀ counter₀ bytes text room right counter = (right ≤ counter) × (counter ≤ cases) × (length bytes ≡ 6144) × (length text ≡ 8192) × (length room ≡ 8192)
+Inv-loop cases are-records bytes₀ text₀ right₀ counter₀ bytes text right counter = (right ≤ counter) × (counter ≤ cases) × (length bytes ≡ 10240) × (length text ≡ 8192)
 
 abbrev μ-loop : tie.MeasureT-loop
-μ-loop cases bytes₀ text₀ room₀ right₀ counter₀ bytes text room right counter = cases - counter
+μ-loop cases are-records bytes₀ text₀ right₀ counter₀ bytes text right counter = cases - counter
 
 loop-holds : tie.Need-loop-holds Inv-loop μ-loop
 loop-holds c = search needs
 
-slice-aggregate-read-part : tie.Need-slice-aggregate-read-part Inv-loop μ-loop
-slice-aggregate-read-part c = search needs
+slice-aggregate-read-case : tie.Need-slice-aggregate-read-case Inv-loop μ-loop
+slice-aggregate-read-case c = search needs
 
-read-part-requires : tie.Need-read-part-requires Inv-loop μ-loop
-read-part-requires c κs = search needs
+read-case-requires : tie.Need-read-case-requires Inv-loop μ-loop
+read-case-requires c κs = search needs
 
-slice-aggregate-read-part-2 : tie.Need-slice-aggregate-read-part-2 Inv-loop μ-loop
-slice-aggregate-read-part-2 c = search needs
+slice-aggregate-read-case-2 : tie.Need-slice-aggregate-read-case-2 Inv-loop μ-loop
+slice-aggregate-read-case-2 c = search needs
 
-read-part-requires-2 : tie.Need-read-part-requires-2 Inv-loop μ-loop
-read-part-requires-2 c κs = search needs
+read-case-requires-2 : tie.Need-read-case-requires-2 Inv-loop μ-loop
+read-case-requires-2 c κs = search needs
 
-sub-lists : tie.Need-sub-lists Inv-loop μ-loop
-sub-lists c = search needs
+sub-agrees : tie.Need-sub-agrees Inv-loop μ-loop
+sub-agrees c = search needs
 
-part-lists-start : tie.Need-part-lists-start Inv-loop μ-loop
-part-lists-start c = search needs
+part-agrees-start : tie.Need-part-agrees-start Inv-loop μ-loop
+part-agrees-start c = search needs
 
-part-lists-end : tie.Need-part-lists-end Inv-loop μ-loop
-part-lists-end c = search needs
+part-agrees-end : tie.Need-part-agrees-end Inv-loop μ-loop
+part-agrees-end c = search needs
 
-sub-lists-2 : tie.Need-sub-lists-2 Inv-loop μ-loop
-sub-lists-2 c = search needs
+sub-agrees-2 : tie.Need-sub-agrees-2 Inv-loop μ-loop
+sub-agrees-2 c = search needs
 
-part-lists-start-2 : tie.Need-part-lists-start-2 Inv-loop μ-loop
-part-lists-start-2 c = search needs
+part-agrees-start-2 : tie.Need-part-agrees-start-2 Inv-loop μ-loop
+part-agrees-start-2 c = search needs
 
-part-lists-end-2 : tie.Need-part-lists-end-2 Inv-loop μ-loop
-part-lists-end-2 c = search needs
+part-agrees-end-2 : tie.Need-part-agrees-end-2 Inv-loop μ-loop
+part-agrees-end-2 c = search needs
 
-slice-aggregate-lists : tie.Need-slice-aggregate-lists Inv-loop μ-loop
-slice-aggregate-lists c = search needs
-
-lists-requires : tie.Need-lists-requires Inv-loop μ-loop
-lists-requires c κs = search needs
-
-sub-writes-back : tie.Need-sub-writes-back Inv-loop μ-loop
-sub-writes-back c = search needs
-
-part-writes-back-start : tie.Need-part-writes-back-start Inv-loop μ-loop
-part-writes-back-start c = search needs
-
-part-writes-back-end : tie.Need-part-writes-back-end Inv-loop μ-loop
-part-writes-back-end c = search needs
-
-slice-aggregate-writes-back : tie.Need-slice-aggregate-writes-back Inv-loop μ-loop
-slice-aggregate-writes-back c = search needs
-
-writes-back-requires : tie.Need-writes-back-requires Inv-loop μ-loop
-writes-back-requires c κs = search needs
+agrees-requires : tie.Need-agrees-requires Inv-loop μ-loop
+agrees-requires c κs = search needs
 
 add-right : tie.Need-add-right Inv-loop μ-loop
 add-right c = search needs
@@ -90,23 +72,17 @@ replay-spec =
     Inv-loop
     μ-loop
     loop-holds
-    slice-aggregate-read-part
-    read-part-requires
-    slice-aggregate-read-part-2
-    read-part-requires-2
-    sub-lists
-    part-lists-start
-    part-lists-end
-    sub-lists-2
-    part-lists-start-2
-    part-lists-end-2
-    slice-aggregate-lists
-    lists-requires
-    sub-writes-back
-    part-writes-back-start
-    part-writes-back-end
-    slice-aggregate-writes-back
-    writes-back-requires
+    slice-aggregate-read-case
+    read-case-requires
+    slice-aggregate-read-case-2
+    read-case-requires-2
+    sub-agrees
+    part-agrees-start
+    part-agrees-end
+    sub-agrees-2
+    part-agrees-start-2
+    part-agrees-end-2
+    agrees-requires
     add-right
     add-counter
     loop-less

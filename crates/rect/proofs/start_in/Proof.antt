@@ -1,4 +1,4 @@
--- `start_in` meets its contract, by cases on the origin. Assumes nothing.
+-- `start_in` meets its contract, by cases on the rule. Assumes nothing.
 use borrow.Author.Needs.{needs}
 use Rattle.rect.proofs.start_in.Statement.{statement}
 use Rattle.rect.proofs.start_in.Tie as tie

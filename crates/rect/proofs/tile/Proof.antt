@@ -34,14 +34,14 @@ span-of-requires-2 c κs =
     let entry = c .before .before .before in
     (entry .pre .0, shifts-small (entry .args .channel) (plain (c .before)) (entry .pre .1) .1)
 
-refused-requires-2 : tie.Need-refused-requires-2
-refused-requires-2 c κs = search needs
+no-tile-requires : tie.Need-no-tile-requires
+no-tile-requires c κs = search needs
 
 returns-2 : tie.Need-returns-2
 returns-2 c =
     let spans = c .before .before .before .before in
     let across = spans .before in
-    c .refused2 .ensures
+    c .no-tile .ensures
     ∙ Tiles.empty (across .before .before .before .args .channel) (plain (across .before)) (across .span-of .ensures) (spans .span-of2 .ensures)
     (c .before .if2 .taken)
 
@@ -60,6 +60,6 @@ tile-spec =
     returns
     span-of-requires
     span-of-requires-2
-    refused-requires-2
+    no-tile-requires
     returns-2
     returns-3)

@@ -11,23 +11,20 @@ slice-aggregate-read-full c = search needs
 read-full-requires : tie.Need-read-full-requires
 read-full-requires c κs = search needs
 
-array-share-prefix-record : tie.Need-array-share-prefix-record
-array-share-prefix-record c = search needs
+array-share-prefix-input : tie.Need-array-share-prefix-input
+array-share-prefix-input c = search needs
 
-slice-aggregate-list-record : tie.Need-slice-aggregate-list-record
-slice-aggregate-list-record c = search needs
+slice-aggregate-list-input : tie.Need-slice-aggregate-list-input
+slice-aggregate-list-input c = search needs
 
-slice-aggregate-list-record-2 : tie.Need-slice-aggregate-list-record-2
-slice-aggregate-list-record-2 c = search needs
-
-list-record-requires : tie.Need-list-record-requires
-list-record-requires c κs = search needs
+list-input-requires : tie.Need-list-input-requires
+list-input-requires c κs = search needs
 
 array-share-prefix-text : tie.Need-array-share-prefix-text
 array-share-prefix-text c = search needs
 
 slice-aggregate-write-all : tie.Need-slice-aggregate-write-all
-slice-aggregate-write-all c = let l = c .before .before .list-record in sym (length-take-le (l .result .length) (l .last .1 .0) (array-share-prefix-text (c .before)))
+slice-aggregate-write-all c = let l = c .before .list-input in sym (length-take-le (l .result) (l .last .1 .0) (array-share-prefix-text (c .before)))
 
 write-all-requires : tie.Need-write-all-requires
 write-all-requires c κs = search needs
@@ -41,10 +38,9 @@ main-spec =
     (tie.spec
     slice-aggregate-read-full
     read-full-requires
-    array-share-prefix-record
-    slice-aggregate-list-record
-    slice-aggregate-list-record-2
-    list-record-requires
+    array-share-prefix-input
+    slice-aggregate-list-input
+    list-input-requires
     array-share-prefix-text
     slice-aggregate-write-all
     write-all-requires
