@@ -15,7 +15,7 @@ use Rattle.list.specs.Questions.{judgeStep}
 use Rattle.list.proofs.Asking.{passed}
 use Rattle.list.proofs.Totals.{stepped-total}
 use Rattle.line.specs.Forward.{Samples}
-use Rattle.tile.proofs.Together.{tiles-together}
+use Rattle.cuts.proofs.Together.{tiles-together}
 use Rattle.plan.specs.Steps.{steps}
 use Rattle.plan.specs.Plans.{judgeSteps, steppedAll, meant}
 use Rattle.plan.proofs.Runs.{none-refused}

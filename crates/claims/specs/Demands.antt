@@ -8,7 +8,7 @@ use Rattle.channel.specs.declared.Channel.{Channel}
 use Rattle.list.specs.declared.Step.{Step}
 use Rattle.line.specs.Uncut.{Squeeze, Fitting}
 use Rattle.line.specs.Forward.{Samples}
-use Rattle.tile.specs.Cut.{Cut, Event, State, Begins, allAllowed, AllRan, AllHold, together}
+use Rattle.cuts.specs.Cut.{Cut, Event, State, Begins, allAllowed, AllRan, AllHold, together}
 use Rattle.plan.specs.Standard.{StandardSteps}
 use Rattle.record.specs.Records.{readAnswer}
 use Rattle.runs.specs.Runs.{layout}

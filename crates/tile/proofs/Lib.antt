@@ -10,8 +10,5 @@ pub mod TwoRows
 pub mod OuterRows
 pub mod ColumnOutputs
 pub mod RowPairs
-pub mod Parts
 pub mod Fitted
 pub mod Accepted
-pub mod Stretches
-pub mod Together

@@ -2,4 +2,3 @@ pub mod Lanes
 pub mod Rows
 pub mod Pairs
 pub mod Call
-pub mod Cut

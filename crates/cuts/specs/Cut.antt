@@ -8,9 +8,8 @@ use lib.Dec.{eqb, ltb}
 use lib.IntN.{ℤ, pos}
 use lib.ListN.{length, getD, take, drop}
 use Rattle.numbers.specs.Numbers.{maxSide, maxSamples}
-use Rattle.tile.specs.declared.Sides.{Sides}
 use Rattle.line.specs.Uncut.{Squeeze, place, lineAt, positionAt, size, table, uncut}
-use Rattle.tile.specs.Call.{Call, answer, after}
+use Rattle.tile.specs.Call.{Call, sides, answer, after}
 
 -- a strip: the lines from `start` on, and its tiles along the squeeze; tile t begins with pair `from t`
 pub record Strip : Type 0 where
@@ -91,10 +90,6 @@ unfoldable pub tilePrev : Squeeze → Strip → (ℕ → List ℤ) → ℕ → L
 tilePrev s p slices zero = take (p .lines) (drop (p .start) (s .prev))
 tilePrev s p slices (suc t) =
     lineAcross (s .horizontal) (p .lines) (tileSize s p t) 0 (p .lines) (tileSize s p t - 1) (slices t)
-
--- sides of a rectangle of so many lines of so many samples
-abbrev pub sides : Bool → ℕ → ℕ → Sides
-sides horizontal lines n = record { width = cond horizontal n lines; height = cond horizontal lines n }
 
 -- the call of tile t, with the strip's slices as they then are
 unfoldable pub tileCall : Squeeze → Strip → (ℕ → List ℤ) → ℕ → Call

@@ -12,11 +12,11 @@ use lib.Dec.{eqb}
 use lib.IntN.{ℤ}
 use lib.ListN.{length}
 use Rattle.line.specs.Uncut.{Squeeze, Fitting}
 use Rattle.tile.specs.Call.{Call, answer, after}
-use Rattle.tile.specs.Cut.{Strip, Cut, tileSize, tileOut, tileCall, part, State, Event, runs, other, on, stored, happens, together, allowed, allAllowed, Begins, AllRan, AllHold}
+use Rattle.cuts.specs.Cut.{Strip, Cut, tileSize, tileOut, tileCall, part, State, Event, runs, other, on, stored, happens, together, allowed, allAllowed, Begins, AllRan, AllHold}
 use Rattle.line.proofs.Lines.{lt-or-ge}
-use Rattle.tile.proofs.Parts.{part-length}
-use Rattle.tile.proofs.Stretches.{Left, tile-after}
+use Rattle.cuts.proofs.Parts.{part-length}
+use Rattle.cuts.proofs.Stretches.{Left, tile-after}
 
 -- what holds of the slice that is replaced, and of each other one, holds of all
 stored-elim : (Q : List ℤ → Type 0) (slices : ℕ → ℕ → List ℤ) (k t : ℕ) (xs : List ℤ) (i j : ℕ)
