@@ -8,7 +8,8 @@ use Rattle.channel.specs.declared.Channel.{Channel}
 use Rattle.list.specs.declared.Step.{Step}
 use Rattle.line.specs.Uncut.{Squeeze, Fitting}
 use Rattle.line.specs.Forward.{Samples}
-use Rattle.cuts.specs.Cut.{Cut, Event, State, Begins, allAllowed, AllRan, AllHold, together}
+use Rattle.cuts.specs.Cut.{Cut, Event, State, Begins, allAllowed}
+use Rattle.cuts.specs.Claim.{GiveUncut}
 use Rattle.plan.specs.Standard.{StandardSteps}
 use Rattle.record.specs.Records.{readAnswer}
 use Rattle.runs.specs.Runs.{layout}
@@ -58,7 +59,7 @@ RebuiltWrites = (bytes : List ℕ) (pyramid picture work pyramid₂ work₂ : Li
 -- ---- demand 3, over a whole list of tile calls
 abbrev pub TilesTogether : Type 0
 TilesTogether = (s : Squeeze) → Fitting s → (cut : Cut s) (es : List Event) (state : State) → Begins s cut state → allAllowed s cut es state
-    → AllRan s cut (together s cut es state) → AllHold s cut (together s cut es state)
+    → GiveUncut s cut es state
 
 -- ---- all of them
 pub record Demands : Type 0 where
