@@ -17,6 +17,7 @@ use Rattle.cuts.specs.Cut.{Strip, Cut, tileSize, tileOut, tileCall, part
 use Rattle.cuts.specs.Claim as Claim
 use Rattle.cuts.specs.Claim.{AllAccepted, AllHold, GiveUncut}
 use Rattle.line.proofs.Lines.{lt-or-ge}
+use Rattle.tile.proofs.Fitted.{refused-after}
 use Rattle.cuts.proofs.Parts.{part-length}
 use Rattle.cuts.proofs.Stretches.{Left, tile-after}
 use Rattle.cuts.proofs.Tiled.{each-in-place}
@@ -39,11 +40,6 @@ raised-elim Q done k i new old = by (eqb i k) refl
     by : (b : Bool) → eqb i k ≡ b → Q (cond b (suc (done i)) (done i))
     by true e = new (eqb-true i k e)
     by false e = old (eqb-false i k e)
-
--- what a refused call leaves
-refused-after : (c : Call) → (answer c ≡ 0 → ⊥) → after c ≡ c .out
-unfolding after
-refused-after c n = rw (ne-eqb (answer c) 0 n)
 
 module _ (s : Squeeze) (fs : Fitting s) (cut : Cut s) where
   -- the part of tile t of strip k

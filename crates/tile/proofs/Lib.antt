@@ -12,3 +12,4 @@ pub mod ColumnOutputs
 pub mod RowPairs
 pub mod Fitted
 pub mod Accepted
+pub mod AsStandard
