@@ -2,13 +2,15 @@
 -- fill their lists, and that its steps are the accepted ones. Assumes nothing.
 use mathlib.Core.Path.{_≡_, refl, sym, ap, _∙_}
 use mathlib.Core.Bool.{Bool, true, false, cond, _&&_, and-eq-true-iff}
-use mathlib.Core.List.{List, [], _∷_}
+use mathlib.Core.List.{List, [], _∷_, _++_}
 use Prim.Native.Nat.{ℕ, _≤_}
 use native.Mathlib.Omega.{arith}
 use lib.Dec.{eqb, leb}
 use lib.IntN.{ℤ}
-use lib.ListN.{length}
-use borrow.Author.Tests.{eqb-true, eq-eqb, ne-eqb}
+use lib.ListN.{length, take, replicate, length-replicate}
+use lib.Seq.{length-take-le, take-all, take-append-seam}
+use borrow.Author.Tests.{eqb-true, eq-eqb, ne-eqb, le-leb, lt-leb}
+use Rattle.numbers.specs.Numbers.{refusedOutside, refusedField}
 use Rattle.channel.specs.declared.Channel.{Channel}
 use Rattle.list.specs.declared.ChannelList.{ChannelList}
 use Rattle.list.specs.declared.Step.{Step}
@@ -22,7 +24,9 @@ use Rattle.list.proofs.Totals.{stepped-total}
 use Rattle.line.specs.Forward.{Samples}
 use Rattle.tile.specs.Call as Tile
 use Rattle.tile.specs.Call.{Call}
-use Rattle.tile.proofs.Together.{tiles-together}
+use Rattle.tile.proofs.AsStandard.{tile-is-standard}
+use Rattle.cuts.proofs.Together.{tiles-together}
+use Rattle.cuts.proofs.Witness.{witness}
 use Rattle.plan.specs.declared.Steps.{Steps}
 use Rattle.plan.specs.Steps.{steps}
 use Rattle.plan.specs.Plans as Plans
@@ -32,20 +36,24 @@ use Rattle.plan.proofs.Answers.{rewritten-accepted}
 use Rattle.plan.proofs.Judged.{plan-answer, meant-judged}
 use Rattle.plan.proofs.AsStandard.{list-standard}
 use Rattle.record.specs.declared.Record.{Record}
+use Rattle.record.specs.Reading as Reading
+use Rattle.record.specs.Reading.{answerOf}
 use Rattle.record.specs.Records as Records
 use Rattle.record.specs.Records.{readAnswer, readOf, channelsOf, stepsOf, reachedOf, writeAnswer, writtenOf, writtenBytes}
 use Rattle.record.proofs.Readings.{read-answer, read-judged, list-back, steps-back}
 use Rattle.record.proofs.ReadWritten.{read-written}
 use Rattle.record.proofs.WrittenRead.{written-read, one-record}
 use Rattle.listing.specs.Listing as L
-use Rattle.listing.specs.Listing.{listing, listed, textAfter}
+use Rattle.listing.specs.Text as Text
+use Rattle.listing.specs.Text.{refusedWord, numbered}
+use Rattle.listing.specs.Listing.{listing, listed, textAfter, judgedBytes, printed}
 use Rattle.runs.specs.Runs.{isTaken, layout}
 use Rattle.runs.specs.Claim.{Fills, ExactlyOne}
 use Rattle.runs.proofs.Whole.{squeezed-fills, squeezed-rebuilds, rebuilt-fills, rebuilt-squeezes, exactly-one}
 use Rattle.runs.proofs.AsStandard.{run-standard}
 use Rattle.squeeze.specs.GridRect as Rect
 use Rattle.squeeze.specs.Entry.{fits, answer, pictureOf, pyramidOf, workOf}
-use Rattle.claims.specs.Demands.{RefusalKeeps, ListIsStandard, PictureIsStandard, WriterGivesIt, WrittenRebuilds, RebuiltWrites, TilesTogether, Demands}
+use Rattle.claims.specs.Demands.{field4097, RefusalKeeps, ListIsStandard, PictureIsStandard, ProgramRule, WriterGivesIt, WrittenRebuilds, RebuiltWrites, TilesTogether, Demands}
 
 -- ---- the layout: refused steps or not, the sample total stays; accepted steps reach the list that `steppedAll` says
 layout-total : (ss : List Step) (cs : List Channel) → total (layout ss cs) ≡ total cs
@@ -163,6 +171,56 @@ unfolding pictureOf
 picture-is-standard bytes pyramid picture work s h d =
     rw h (run-standard (stepsOf bytes) (channelsOf bytes) pyramid (pyramid-fills bytes pyramid picture work h s) d)
 
+-- ---- the program
+program-short : (input : List ℕ) → length input ≤ judgedBytes → printed input ≡ listing input
+unfolding L.printed
+program-short input h = ap listing (take-all judgedBytes input h)
+
+program-long : (input more : List ℕ) → length input ≡ judgedBytes → printed (input ++ more) ≡ listing input
+unfolding L.printed
+program-long input more h = ap listing (ap (λ n. take n (input ++ more)) (sym h) ∙ take-append-seam input more)
+
+-- a record whose first field is refused
+first-refused : (x : ℕ) (xs : List ℕ) (a : ℕ) → answerOf (x ∷ xs) [] [] ≡ a → (a ≡ 0 → ⊥) → readAnswer (x ∷ xs) ≡ a
+unfolding Reading.formOf Records.readAnswer
+first-refused x xs a h n = rw (ne-eqb (length (x ∷ xs)) 0 (λ e. absurd (omega arith)), h, ne-eqb a 0 n, ne-eqb a 0 n)
+
+refused-listing : (bytes : List ℕ) (a : ℕ) → readAnswer bytes ≡ a → (a ≡ 0 → ⊥) → listing bytes ≡ numbered refusedWord a
+unfolding L.listing
+refused-listing bytes a h n = rw (h, ne-eqb a 0 n)
+
+-- one of 01 FE 0F (hex) states 4,094 bytes: it runs past what is left, or has not the length of a channel
+module _ (rest : List ℕ) where
+  long : leb 3 (length (1 ∷ 254 ∷ 15 ∷ rest)) ≡ true
+  long = le-leb 3 (length (1 ∷ 254 ∷ 15 ∷ rest)) (omega arith)
+
+  first-outside : leb 4097 (length (1 ∷ 254 ∷ 15 ∷ rest)) ≡ false → readAnswer (1 ∷ 254 ∷ 15 ∷ rest) ≡ refusedOutside
+  unfolding Reading.fieldInside Reading.judgeField
+  first-outside h = first-refused 1 (254 ∷ 15 ∷ rest) refusedOutside (rw (long, h)) (λ e. absurd (omega arith))
+
+  first-inside : leb 4097 (length (1 ∷ 254 ∷ 15 ∷ rest)) ≡ true → readAnswer (1 ∷ 254 ∷ 15 ∷ rest) ≡ refusedField
+  unfolding Reading.fieldInside Reading.isChannel Reading.isStep Reading.judgeField
+  first-inside h = first-refused 1 (254 ∷ 15 ∷ rest) refusedField (rw (long, h)) (λ e. absurd (omega arith))
+
+-- of 4,097 bytes the first 4,096 are judged
+program-cut : (rest : List ℕ) → length rest ≡ 4094
+    → (printed (1 ∷ 254 ∷ 15 ∷ rest) ≡ numbered refusedWord refusedOutside) × (listing (1 ∷ 254 ∷ 15 ∷ rest) ≡ numbered refusedWord refusedField)
+unfolding L.printed
+program-cut rest h =
+    let few = take 4093 rest in
+    let short = length-take-le 4093 rest (omega arith) in
+    let out = first-outside few (lt-leb 4097 (length (1 ∷ 254 ∷ 15 ∷ few)) (omega arith)) in
+    let in-all = first-inside rest (le-leb 4097 (length (1 ∷ 254 ∷ 15 ∷ rest)) (omega arith)) in (
+      refused-listing (1 ∷ 254 ∷ 15 ∷ few) refusedOutside out (λ e. absurd (omega arith)),
+      refused-listing (1 ∷ 254 ∷ 15 ∷ rest) refusedField in-all (λ e. absurd (omega arith)),
+    )
+
+field-cut : (printed field4097 ≡ numbered refusedWord refusedOutside) × (listing field4097 ≡ numbered refusedWord refusedField)
+field-cut = program-cut (replicate 4094 0) (length-replicate {A = ℕ} 4094 0)
+
+program-rule : ProgramRule
+program-rule = record { short = program-short; long = program-long; cut = field-cut .0; uncut = field-cut .1 }
+
 -- ---- demand 3
 writer-gives-it : WriterGivesIt
 unfolding pyramidOf
@@ -200,11 +258,14 @@ demands =
       refusal-keeps = refusal-keeps;
       list-is-standard = list-is-standard;
       picture-is-standard = picture-is-standard;
+      tile-is-standard = tile-is-standard;
       total-stays = record { laid-out = layout-total; rewrites = reached-total };
       record-undone = record { read-written = read-written; written-read = written-read; one-record = one-record };
+      program-rule = program-rule;
       one-pyramid = exactly-one;
       writer-gives-it = writer-gives-it;
       written-rebuilds = written-rebuilds;
       rebuilt-writes = rebuilt-writes;
       tiles-together = tiles-together;
+      tiles-witness = witness;
     }

@@ -1,11 +1,12 @@
 -- The demands, over the definitions that the C functions' contracts cite: `answer`, `pictureOf`, `pyramidOf` and `workOf` of crate squeeze for
 -- `squeeze_rebuild` and `squeeze_write`, `answer` and `after` of crate tile for `squeeze_tile`, `numbersAfter` for `squeeze_grid_rect`, `listed` and
--- `textAfter` for `squeeze_listing`; and those of `rewrite` and `write_record`. Statements only; proofs/Demands.antt proves them.
+-- `textAfter` for `squeeze_listing`; and those of `rewrite`, `write_record` and `list_input`. Statements only; proofs/Demands.antt proves them.
 use mathlib.Core.Path.{_≡_}
-use mathlib.Core.List.{List}
-use Prim.Native.Nat.{ℕ}
+use mathlib.Core.List.{List, _∷_, _++_}
+use Prim.Native.Nat.{ℕ, _≤_}
 use lib.IntN.{ℤ}
-use lib.ListN.{length}
+use lib.ListN.{length, replicate}
+use Rattle.numbers.specs.Numbers.{refusedOutside, refusedField}
 use Rattle.channel.specs.declared.Channel.{Channel}
 use Rattle.list.specs.declared.ChannelList.{ChannelList}
 use Rattle.list.specs.declared.Step.{Step}
@@ -14,14 +15,18 @@ use Rattle.line.specs.Uncut.{Squeeze, Fitting}
 use Rattle.line.specs.Forward.{Samples}
 use Rattle.tile.specs.Call as Tile
 use Rattle.tile.specs.Call.{Call}
-use Rattle.tile.specs.Cut.{Cut, Event, State, Begins, allAllowed, AllRan, AllHold, together}
+use Rattle.tile.specs.Plain.{TileIsStandard}
+use Rattle.cuts.specs.Cut.{Cut, Event, State, Begins, allAllowed}
+use Rattle.cuts.specs.Claim.{GiveUncut}
+use Rattle.cuts.specs.Witness.{Witness}
 use Rattle.plan.specs.declared.Steps.{Steps}
 use Rattle.plan.specs.Steps.{steps}
 use Rattle.plan.specs.Plans.{meant, rewritten}
 use Rattle.plan.specs.Standard.{StandardSteps}
 use Rattle.record.specs.Records.{readAnswer, channelsOf, stepsOf, reachedOf, writtenOf, writtenBytes}
 use Rattle.record.specs.Laws.{ReadWrittenLaw, WrittenReadLaw, OneRecord}
-use Rattle.listing.specs.Listing.{listed, textAfter}
+use Rattle.listing.specs.Text.{refusedWord, numbered}
+use Rattle.listing.specs.Listing.{listing, listed, textAfter, judgedBytes, printed}
 use Rattle.runs.specs.Runs.{layout}
 use Rattle.runs.specs.Unbounded.{RunInDomain, standardRun}
 use Rattle.runs.specs.Claim.{Fills, ExactlyOne}
@@ -65,6 +70,20 @@ pub record RecordUndone : Type 0 where
   pub written-read : WrittenReadLaw
   pub one-record : OneRecord
 
+-- 01 FE 0F (hex) and 4,094 zeros
+abbrev pub field4097 : List ℕ
+field4097 = 1 ∷ 254 ∷ 15 ∷ replicate 4094 0
+
+-- The program `squeeze-list` "judges the first 4,096 bytes of standard input": what `list_input` gives it to print is their listing, whatever follows
+-- them. That its `main` hands over what was read, and writes all that it was given, rests on `io`, whose contracts say nothing of either; the gate
+-- runs it on an input whose answer takes 4,096 bytes to know.
+pub record ProgramRule : Type 0 where
+  pub short : (input : List ℕ) → length input ≤ judgedBytes → printed input ≡ listing input
+  pub long : (input more : List ℕ) → length input ≡ judgedBytes → printed (input ++ more) ≡ listing input
+  -- a field that ends with byte 4,097 is cut: refused with 1, uncut it would be 2
+  pub cut : printed field4097 ≡ numbered refusedWord refusedOutside
+  pub uncut : listing field4097 ≡ numbered refusedWord refusedField
+
 -- ---- demand 3, over a whole list of steps
 -- "Take any list of squeeze steps, refused ones included .. exactly one pyramid of the layout reached rebuilds to that picture"
 abbrev pub OnePyramid : Type 0
@@ -92,17 +111,21 @@ RebuiltWrites = (bytes : List ℕ) (pyramid picture work pyramid₂ work₂ : Li
 -- ---- demand 3, over a whole list of tile calls
 abbrev pub TilesTogether : Type 0
 TilesTogether = (s : Squeeze) → Fitting s → (cut : Cut s) (es : List Event) (state : State) → Begins s cut state → allAllowed s cut es state
-    → AllRan s cut (together s cut es state) → AllHold s cut (together s cut es state)
+    → GiveUncut s cut es state
 
 -- ---- all of them
 pub record Demands : Type 0 where
   pub refusal-keeps : RefusalKeeps
   pub list-is-standard : ListIsStandard
   pub picture-is-standard : PictureIsStandard
+  pub tile-is-standard : TileIsStandard
   pub total-stays : TotalStays
   pub record-undone : RecordUndone
+  pub program-rule : ProgramRule
   pub one-pyramid : OnePyramid
   pub writer-gives-it : WriterGivesIt
   pub written-rebuilds : WrittenRebuilds
   pub rebuilt-writes : RebuiltWrites
   pub tiles-together : TilesTogether
+  -- document 01's own case, for which all that the claim before asks holds
+  pub tiles-witness : Witness

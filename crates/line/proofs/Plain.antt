@@ -107,7 +107,7 @@ module _ (s : Squeeze) (fs : Fitting s) (no-next : s .next ≡ []) (no-prev : s 
         record { some = omega (arith, fs .low); low = omega (arith, fs .low); high = omega (arith, fs .high) }
 
   -- Demand 2, for the uncut squeeze
-  pub uncut-standard : IsStandard s
+  pub uncut-standard : IsStandard s (uncut s)
   unfolding lineOf
   uncut-standard k j hk hj =
       uncut-at s k j hk hj

@@ -18,11 +18,11 @@ pub record InDomainWhole (s : Squeeze) : Type 0 where
   pub res : AllInDomain (s .res)
   pub out : AllInDomain (uncut s)
 
--- each line of the output is the standard's, of that line's averages and residuals
-abbrev pub IsStandard : Squeeze → Type 0
-IsStandard s =
+-- each line of an output is the standard's, of that line's averages and residuals
+abbrev pub IsStandard : Squeeze → List ℤ → Type 0
+IsStandard s out =
     (k j : ℕ) → k < s .lines → j < size s
-    → getD (uncut s) (place (s .horizontal) (s .lines) (size s) k j) (pos 0)
+    → getD out (place (s .horizontal) (s .lines) (size s) k j) (pos 0)
     ≡ Std.out
     (λ i. getD (s .avg) (place (s .horizontal) (s .lines) (s .averages) k i) (pos 0))
     (λ i. getD (s .res) (place (s .horizontal) (s .lines) (s .residuals) k i) (pos 0))

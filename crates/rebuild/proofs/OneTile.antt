@@ -13,8 +13,7 @@ use Rattle.channel.specs.declared.Channel.{Channel}
 use Rattle.channel.specs.Channel.{samples}
 use Rattle.line.specs.Forward.{averageCount, residualCount}
 use Rattle.tile.specs.declared.Sides.{Sides}
-use Rattle.tile.specs.Call.{call, after}
-use Rattle.tile.specs.Cut.{sides}
+use Rattle.tile.specs.Call.{sides, call, after}
 use Rattle.tile.proofs.Accepted.{Arguments, accepted-after}
 use Rattle.runs.specs.Runs.{linesOf, sizeOf, channelBack}
 use Rattle.runs.proofs.OneChannel.{samples-by, all-along, average-samples, residual-samples}

@@ -11,7 +11,7 @@ ghost use lib.ListN.{length, take, drop};
 ghost use Rattle.channel.specs.Channel.{samples};
 ghost use Rattle.list.specs.Lists.{maxSteps, channels, average, range, total};
 ghost use Rattle.line.specs.Forward.{averageCount};
-ghost use Rattle.tile.specs.Cut as Cut;
+ghost use Rattle.tile.specs.Call as Call;
 ghost use Rattle.plan.specs.Steps as Spec;
 ghost use Rattle.plan.specs.Plans as Plans;
 ghost use Rattle.buffer.specs.Buffer.{copied};
@@ -48,7 +48,7 @@ fn across(c: Channel, horizontal: bool) -> usize
 
 // The sides of so many lines of n samples.
 fn sides(horizontal: bool, lines: usize, n: usize) -> Sides
-    ensures { λ r. ⌜ r ≡ Cut.sides horizontal lines n ⌝ }
+    ensures { λ r. ⌜ r ≡ Call.sides horizontal lines n ⌝ }
 {
     if horizontal {
         Sides {

@@ -13,9 +13,8 @@ use lib.ListN.{length}
 use Rattle.numbers.specs.Numbers.{maxSide, maxSamples}
 use Rattle.tile.specs.declared.Sides.{Sides}
 use Rattle.line.specs.Uncut.{squeeze, uncut}
-use Rattle.tile.specs.Call.{Call, area, areaAllowed, areasAllowed, sidesSmall, sidesFit, lineFits, sizesFit, slicesFit, answer, squeezeOf, after}
+use Rattle.tile.specs.Call.{Call, sides, area, areaAllowed, areasAllowed, sidesSmall, sidesFit, lineFits, sizesFit, slicesFit, answer, squeezeOf, after}
 use Rattle.tile.specs.Call as Spec
-use Rattle.tile.specs.Cut.{sides}
 use Rattle.line.proofs.Lines.{lt-or-ge}
 
 both : {a b : Bool} → a ≡ true → b ≡ true → a && b ≡ true

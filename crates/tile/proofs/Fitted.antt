@@ -1,7 +1,7 @@
 -- What the answers to questions 5, 12 and 14 say of a call (specs/Call.antt): the number that it gets, and that an accepted call's sizes and slices
 -- fit. Assumes nothing.
 use mathlib.Core.Path.{_≡_, refl, sym, ap, _∙_}
-use mathlib.Core.Bool.{Bool, true, false, _&&_, _||_, not}
+use mathlib.Core.Bool.{Bool, true, false, cond, _&&_, _||_, not}
 use mathlib.Core.List.{List}
 use mathlib.Core.Logic.{_⊎_, inl, inr}
 use Prim.Native.Nat.{ℕ, zero, suc, _+_, _*_, _≤_}
@@ -11,7 +11,7 @@ use borrow.Author.Tests.{leb-true, eqb-true, eq-eqb, ne-eqb}
 use lib.Dec.{eqb, leb}
 use lib.IntN.{ℤ}
 use lib.ListN.{length}
-use Rattle.numbers.specs.Numbers.{maxSamples}
+use Rattle.numbers.specs.Numbers.{maxSamples, refusedSamples, refusedSizes, refusedLength}
 use Rattle.line.specs.Uncut.{Fitting, uncut}
 use Rattle.tile.specs.declared.Sides.{Sides}
 use Rattle.tile.specs.Call.{Call, area, areaAllowed, areasAllowed, along, across, sidesSmall, sidesFit, lineFits, sizesFit, slicesFit, answer, squeezeOn, squeezeOf, after}
@@ -51,13 +51,27 @@ module _ (c : Call) where
   unfolding answer
   none e f g = rw (e, f, g)
 
-  pub kept : (n : ℕ) → answer c ≡ suc n → after c ≡ c .out
+  pub refused-after : (answer c ≡ 0 → ⊥) → after c ≡ c .out
   unfolding after
-  kept n e = rw (ne-eqb (answer c) 0 (λ z. omega arith))
+  refused-after n = rw (ne-eqb (answer c) 0 n)
+
+  pub kept : (n : ℕ) → answer c ≡ suc n → after c ≡ c .out
+  kept n e = refused-after (λ z. omega arith)
 
   pub made : answer c ≡ 0 → after c ≡ uncut (squeezeOf c)
   unfolding after
   made e = rw (eq-eqb (answer c) 0 e)
+
+  -- only a call whose sizes and slices fit gets none
+  pub fits : answer c ≡ 0 → (sizesFit c ≡ true) × (slicesFit c ≡ true)
+  unfolding answer
+  fits e = by (areasAllowed c) (sizesFit c) (slicesFit c) e
+    where
+      by : (a b d : Bool) → cond a (cond b (cond d 0 refusedLength) refusedSizes) refusedSamples ≡ 0 → (b ≡ true) × (d ≡ true)
+      by true true true e = (refl, refl)
+      by true true false e = absurd (omega arith)
+      by true false d e = absurd (omega arith)
+      by false b d e = absurd (omega arith)
 
 -- ---- an area that is allowed
 pub area-small : (s : Sides) → areaAllowed s ≡ true → area s ≤ maxSamples

@@ -10,8 +10,6 @@ pub mod TwoRows
 pub mod OuterRows
 pub mod ColumnOutputs
 pub mod RowPairs
-pub mod Parts
 pub mod Fitted
 pub mod Accepted
-pub mod Stretches
-pub mod Together
+pub mod AsStandard

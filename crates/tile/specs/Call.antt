@@ -38,6 +38,10 @@ along horizontal s = cond horizontal (s .width) (s .height)
 abbrev pub across : Bool → Sides → ℕ
 across horizontal s = cond horizontal (s .height) (s .width)
 
+-- the sides of a rectangle of so many lines of so many samples
+abbrev pub sides : Bool → ℕ → ℕ → Sides
+sides horizontal lines n = record { width = cond horizontal n lines; height = cond horizontal lines n }
+
 -- 12. "Sides are at most 65,535."
 unfoldable pub sidesSmall : Sides → Bool
 sidesSmall s = leb (s .width) maxSide && leb (s .height) maxSide

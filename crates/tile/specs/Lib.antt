@@ -2,4 +2,4 @@ pub mod Lanes
 pub mod Rows
 pub mod Pairs
 pub mod Call
-pub mod Cut
+pub mod Plain

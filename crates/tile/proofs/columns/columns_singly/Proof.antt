@@ -24,7 +24,7 @@ inside c =
     before-room (a .from) (a .to) (length (a .avg .now)) (length (a .out .now)) (c .before .loop .x) (c .before .before .pre .3) (c .loop-test .taken)
 
 loop-holds : tie.Need-loop-holds Inv-loop μ-loop
-loop-holds c = (refl, omega arith, c .pre .0, columns-none (c .args .out .now) (c .args .start))
+loop-holds c = (refl, omega arith, omega (arith, c .pre .0), columns-none (c .args .out .now) (c .args .start))
 
 mul-unsqueeze : tie.Need-mul-unsqueeze Inv-loop μ-loop
 mul-unsqueeze c = search needs

@@ -1,5 +1,5 @@
 -- A squeeze cut into tiles, and a whole list of tile calls (document 01, "Whole runs"): "cut across into strips anywhere, each strip along the
--- squeeze into one tile or more; each tile has one accepted call and its own output slice". Definitions only.
+-- squeeze into one tile or more; each tile has one accepted call and its own output slice". Definitions only; specs/Claim.antt has the claim.
 use mathlib.Core.Path.{_≡_}
 use mathlib.Core.Bool.{Bool, cond}
 use mathlib.Core.List.{List, [], _∷_}
@@ -8,9 +8,8 @@ use lib.Dec.{eqb, ltb}
 use lib.IntN.{ℤ, pos}
 use lib.ListN.{length, getD, take, drop}
 use Rattle.numbers.specs.Numbers.{maxSide, maxSamples}
-use Rattle.tile.specs.declared.Sides.{Sides}
 use Rattle.line.specs.Uncut.{Squeeze, place, lineAt, positionAt, size, table, uncut}
-use Rattle.tile.specs.Call.{Call, answer, after}
+use Rattle.tile.specs.Call.{Call, sides, answer, after}
 
 -- a strip: the lines from `start` on, and its tiles along the squeeze; tile t begins with pair `from t`
 pub record Strip : Type 0 where
@@ -52,21 +51,22 @@ pub record StripFits (s : Squeeze) (p : Strip) : Type 0 where
 pub record Cut (s : Squeeze) : Type 0 where
   pub strips : ℕ
   pub strip : ℕ → Strip
+  pub some : 0 < s .lines → 0 < strips
   pub fits : (k : ℕ) → k < strips → StripFits s (strip k)
   pub first : 0 < strips → strip 0 .start ≡ 0
   pub follows : (k : ℕ) → k + 1 < strips → strip (k + 1) .start ≡ strip k .start + strip k .lines
   pub last : (k : ℕ) → k + 1 ≡ strips → strip k .start + strip k .lines ≡ s .lines
 
 -- ---- parts of a slice
--- lines `start` to `start + lines` and positions `from` to `from + n` of a slice of `whole` lines of `length` samples, as a slice of its own
+-- lines `start` to `start + lines` and positions `from` to `from + n` of a slice of `whole` lines of `each` samples, as a slice of its own
 unfoldable pub part : Bool → ℕ → ℕ → ℕ → ℕ → ℕ → ℕ → List ℤ → List ℤ
-part horizontal whole length start lines from n xs =
-    table (λ j. getD xs (place horizontal whole length (start + lineAt horizontal lines n j) (from + positionAt horizontal lines n j)) (pos 0)) 0 (lines * n)
+part horizontal whole each start lines from n xs =
+    table (λ j. getD xs (place horizontal whole each (start + lineAt horizontal lines n j) (from + positionAt horizontal lines n j)) (pos 0)) 0 (lines * n)
 
 -- one line across: position i of the lines `start` to `start + lines`
 unfoldable pub lineAcross : Bool → ℕ → ℕ → ℕ → ℕ → ℕ → List ℤ → List ℤ
-lineAcross horizontal whole length start lines i xs =
-    table (λ k. getD xs (place horizontal whole length (start + k) i) (pos 0)) 0 lines
+lineAcross horizontal whole each start lines i xs =
+    table (λ k. getD xs (place horizontal whole each (start + k) i) (pos 0)) 0 lines
 
 -- ---- a tile
 abbrev pub tileAvg : Squeeze → Strip → ℕ → List ℤ
@@ -75,9 +75,12 @@ tileAvg s p t = part (s .horizontal) (s .lines) (s .averages) (p .start) (p .lin
 abbrev pub tileRes : Squeeze → Strip → ℕ → List ℤ
 tileRes s p t = part (s .horizontal) (s .lines) (s .residuals) (p .start) (p .lines) (p .from t) (tileResiduals s p t) (s .res)
 
--- "its part of the uncut squeeze's output"
+-- its part of the uncut squeeze's output, and where along a line that begins: two samples for each pair before
+abbrev pub tileStart : Strip → ℕ → ℕ
+tileStart p t = p .from t + p .from t
+
 abbrev pub tileOut : Squeeze → Strip → ℕ → List ℤ
-tileOut s p t = part (s .horizontal) (s .lines) (size s) (p .start) (p .lines) (p .from t + p .from t) (tileSize s p t) (uncut s)
+tileOut s p t = part (s .horizontal) (s .lines) (size s) (p .start) (p .lines) (tileStart p t) (tileSize s p t) (uncut s)
 
 -- "Its next average line is the next tile's first average line .. at the ends, its part of the outer lines"
 unfoldable pub tileNext : Squeeze → Strip → ℕ → List ℤ
@@ -91,10 +94,6 @@ unfoldable pub tilePrev : Squeeze → Strip → (ℕ → List ℤ) → ℕ → L
 tilePrev s p slices zero = take (p .lines) (drop (p .start) (s .prev))
 tilePrev s p slices (suc t) =
     lineAcross (s .horizontal) (p .lines) (tileSize s p t) 0 (p .lines) (tileSize s p t - 1) (slices t)
-
--- sides of a rectangle of so many lines of so many samples
-abbrev pub sides : Bool → ℕ → ℕ → Sides
-sides horizontal lines n = record { width = cond horizontal n lines; height = cond horizontal lines n }
 
 -- the call of tile t, with the strip's slices as they then are
 unfoldable pub tileCall : Squeeze → Strip → (ℕ → List ℤ) → ℕ → Call
@@ -173,7 +172,3 @@ pub record Begins (s : Squeeze) (cut : Cut s) (state : State) : Type 0 where
 -- at the end: each tile of each strip has run
 abbrev pub AllRan : (s : Squeeze) → Cut s → State → Type 0
 AllRan s cut state = (k : ℕ) → k < cut .strips → state .done k ≡ cut .strip k .tiles
-
--- "the tile calls together give exactly the samples of 01's uncut squeeze, each in its place"
-abbrev pub AllHold : (s : Squeeze) → Cut s → State → Type 0
-AllHold s cut state = (k t : ℕ) → k < cut .strips → t < cut .strip k .tiles → state .slices k t ≡ tileOut s (cut .strip k) t

@@ -1,6 +1,6 @@
 -- The claim over a whole list of tile calls (demand 3; document 01, "Whole runs"). The invariant along the list: of every strip the tiles that
 -- have run hold their parts of the uncut squeeze's output, and every slice keeps its length. The next tile of a strip finds the one before it
--- done, so its call leaves its part; a refused call leaves the slice as it was. Assumes nothing.
+-- done, so its call is accepted and leaves its part; a refused call leaves the slice as it was. Assumes nothing.
 use mathlib.Core.Path.{_≡_, refl, sym, ap, _∙_}
 use mathlib.Core.Bool.{Bool, true, false, cond}
 use mathlib.Core.List.{List, [], _∷_}
@@ -12,11 +12,15 @@ use lib.Dec.{eqb}
 use lib.IntN.{ℤ}
 use lib.ListN.{length}
 use Rattle.line.specs.Uncut.{Squeeze, Fitting}
 use Rattle.tile.specs.Call.{Call, answer, after}
-use Rattle.tile.specs.Cut.{Strip, Cut, tileSize, tileOut, tileCall, part, State, Event, runs, other, on, stored, happens, together, allowed, allAllowed, Begins, AllRan, AllHold}
+use Rattle.cuts.specs.Cut.{Strip, Cut, tileSize, tileOut, tileCall, part, State, Event, runs, other, on, stored, happens, together, allowed, allAllowed, Begins, AllRan}
+use Rattle.cuts.specs.Claim as Claim
+use Rattle.cuts.specs.Claim.{AllAccepted, AllHold, GiveUncut}
 use Rattle.line.proofs.Lines.{lt-or-ge}
-use Rattle.tile.proofs.Parts.{part-length}
-use Rattle.tile.proofs.Stretches.{Left, tile-after}
+use Rattle.tile.proofs.Fitted.{refused-after}
+use Rattle.cuts.proofs.Parts.{part-length}
+use Rattle.cuts.proofs.Stretches.{Left, tile-after}
+use Rattle.cuts.proofs.Tiled.{each-in-place}
 
 -- what holds of the slice that is replaced, and of each other one, holds of all
 stored-elim : (Q : List ℤ → Type 0) (slices : ℕ → ℕ → List ℤ) (k t : ℕ) (xs : List ℤ) (i j : ℕ)
@@ -37,11 +41,6 @@ raised-elim Q done k i new old = by (eqb i k) refl
     by true e = new (eqb-true i k e)
     by false e = old (eqb-false i k e)
 
--- what a refused call leaves
-refused-after : (c : Call) → (answer c ≡ 0 → ⊥) → after c ≡ c .out
-unfolding after
-refused-after c n = rw (ne-eqb (answer c) 0 n)
-
 module _ (s : Squeeze) (fs : Fitting s) (cut : Cut s) where
   -- the part of tile t of strip k
   abbrev partOf : ℕ → ℕ → List ℤ
@@ -61,20 +60,21 @@ module _ (s : Squeeze) (fs : Fitting s) (cut : Cut s) where
   left k hk slices zero r = tt
   left k hk slices (suc t) r = r t (omega arith)
 
-  -- the next tile's call leaves its part
+  -- the next tile's call is accepted, and leaves its part
   next-part : (state : State) → Holds state → (k : ℕ) (hk : k < cut .strips) → state .done k < cut .strip k .tiles
-      → after (tileCall s (cut .strip k) (state .slices k) (state .done k)) ≡ partOf k (state .done k)
+      → (answer (tileCall s (cut .strip k) (state .slices k) (state .done k)) ≡ 0)
+      × (after (tileCall s (cut .strip k) (state .slices k) (state .done k)) ≡ partOf k (state .done k))
   next-part state h k hk ht =
       tile-after s fs (cut .strip k) (cut .fits k hk) (state .slices k) (state .done k) ht
       (left k hk (state .slices k) (state .done k) (λ t l. h .right k t hk l))
-      (h .long k (state .done k) hk ht) .1
+      (h .long k (state .done k) hk ht)
 
   runs-holds : (k : ℕ) (state : State) → allowed s cut (runs k) state → Holds state → Holds (happens s cut (runs k) state)
   unfolding happens
   runs-holds k state a h =
       let d = state .done k in
       let xs = after (tileCall s (cut .strip k) (state .slices k) d) in
-      let e = next-part state h k (a .0) (a .1) in
+      let e = next-part state h k (a .0) (a .1) .1 in
       record {
         long = λ i t hi ht.
             stored-elim (λ (ys : List ℤ). length ys ≡ cut .strip i .lines * tileSize s (cut .strip i) t) (state .slices) k d xs i t
@@ -123,14 +123,31 @@ module _ (s : Squeeze) (fs : Fitting s) (cut : Cut s) where
   all-hold [] state a h = h
   all-hold (e ∷ es) state a h = all-hold es (happens s cut e state) (a .1) (holds e state (a .0) h)
 
-  -- Demand 3, over a whole list of tile calls
-  pub tiles-together : (es : List Event) (state : State) → Begins s cut state → allAllowed s cut es state → AllRan s cut (together s cut es state)
-      → AllHold s cut (together s cut es state)
-  tiles-together es state b a r k t hk ht =
-      let begun : Holds state =
+  accepts : (e : Event) (state : State) → allowed s cut e state → Holds state → Claim.accepted s cut e state
+  accepts (runs k) state a h = next-part state h k (a .0) (a .1) .0
+  accepts (other k t c) state a h = tt
+
+  all-accepted : (es : List Event) (state : State) → allAllowed s cut es state → Holds state → AllAccepted s cut es state
+  all-accepted [] state a h = tt
+  all-accepted (e ∷ es) state a h = (accepts e state (a .0) h, all-accepted es (happens s cut e state) (a .1) (holds e state (a .0) h))
+
+  begun : (state : State) → Begins s cut state → Holds state
+  begun state b =
       record {
         long = b .long;
         within = λ k h. omega (arith, b .none k);
         right = λ k t h l. absurd (omega (arith, b .none k));
-      } in
-      all-hold es state a begun .right k t hk (omega (arith, r k hk))
+      }
+
+  parts-held : (es : List Event) (state : State) → Begins s cut state → allAllowed s cut es state → AllRan s cut (together s cut es state)
+      → AllHold s cut (together s cut es state)
+  parts-held es state b a r k t hk ht = all-hold es state a (begun state b) .right k t hk (omega (arith, r k hk))
+
+  -- Demand 3, over a whole list of tile calls
+  pub tiles-together : (es : List Event) (state : State) → Begins s cut state → allAllowed s cut es state → GiveUncut s cut es state
+  tiles-together es state b a =
+      record {
+        accepted = all-accepted es state a (begun state b);
+        hold = parts-held es state b a;
+        placed = λ r. each-in-place s fs cut (together s cut es state) (parts-held es state b a r);
+      }

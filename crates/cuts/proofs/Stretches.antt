@@ -13,14 +13,14 @@ use lib.ListN.{length, getD, take, drop, length-take, length-drop}
 use lib.Seq.{length-take-le}
 use Rattle.line.specs.Line.{Line, orElse, nextAverage, before, secondAt, sample}
 use Rattle.line.specs.Uncut.{Squeeze, squeeze, Fitting, place, lineAt, positionAt, size, table, outer, lineOf, outputAt, uncut}
-use Rattle.tile.specs.Cut.{Strip, StripFits, isLast, end, tileAverages, tileResiduals, tileSize, part, lineAcross, tileAvg, tileRes, tileOut, tileNext, tilePrev, tileCall}
+use Rattle.cuts.specs.Cut.{Strip, StripFits, isLast, end, tileAverages, tileResiduals, tileSize, part, lineAcross, tileAvg, tileRes, tileOut, tileNext, tilePrev, tileCall}
 use Rattle.tile.specs.Call.{answer, after}
 use Rattle.line.proofs.Tables.{table-length, table-at, table-cong}
 use Rattle.line.proofs.Places.{line-back, position-back, place-room, line-room, position-room}
 use Rattle.line.proofs.Lines.{Fits, Stretch, stretch-sample, sample-second, before-next, before-first, next-inside, next-last, lt-or-ge}
 use Rattle.line.proofs.Outputs.{outer-at, outer-part, uncut-at, line-averages, line-residuals, line-avg, line-res, line-next, line-prev}
-use Rattle.tile.proofs.Parts.{part-length, part-at, across-length, across-at}
+use Rattle.cuts.proofs.Parts.{part-length, part-at, across-length, across-at}
 use Rattle.tile.proofs.Accepted.{Arguments, callOf, accepted, accepted-after}
 
 -- ---- the next average of two lines: inside both, at the end of both, or given by an outer line
 next-both : (l u : Line) (i j : ℕ) → i + 1 < u .averages → j + 1 < l .averages → u .avg (i + 1) ≡ l .avg (j + 1) → nextAverage u i ≡ nextAverage l j

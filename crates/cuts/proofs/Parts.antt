@@ -8,7 +8,7 @@ use native.Mathlib.Omega.{arith}
 use lib.IntN.{ℤ, pos}
 use lib.ListN.{length, getD, take, drop}
 use Rattle.line.specs.Uncut.{place, lineAt, positionAt, table, outer}
-use Rattle.tile.specs.Cut.{part, lineAcross}
+use Rattle.cuts.specs.Cut.{part, lineAcross}
 use Rattle.line.proofs.Tables.{table-length, table-at}
 use Rattle.line.proofs.Places.{line-back, position-back, place-room}
 

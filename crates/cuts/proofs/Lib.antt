@@ -1,0 +1,6 @@
+pub mod Parts
+pub mod Stretches
+pub mod Consecutive
+pub mod Tiled
+pub mod Together
+pub mod Witness
