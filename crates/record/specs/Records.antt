@@ -38,7 +38,7 @@ readOf bytes =
     (record { answer = 0; list = Lists.packed (formOf bytes .channels); steps = S.packed (formOf bytes .steps) })
     (record { answer = readAnswer bytes; list = Lists.packed []; steps = S.packed [] })
 
--- its channels, its steps ("An empty list of steps means the default plan") and the list that they leave
+-- a record's channels, the steps that are meant ("An empty list of steps means the default plan") and the list that they leave
 abbrev pub channelsOf : List ℕ → List Channel
 channelsOf bytes = formOf bytes .channels
 

@@ -19,7 +19,7 @@ returns c =
     (printed-so _ _ _ _ _ (sym (take-all judgedBytes (t .before .before .args .input .now) (omega (arith, t .if1 .taken)))) p, put-inside p)
 
 slice-aggregate-put-listing : tie.Need-slice-aggregate-put-listing
-slice-aggregate-put-listing c = let e = c .before in sym (length-take-le judgedBytes (e .before .before .args .input .now) (e .if1 .left))
+slice-aggregate-put-listing c = let e = c .before in sym (length-take-le _ (e .before .before .args .input .now) (e .if1 .left))
 
 put-listing-requires-2 : tie.Need-put-listing-requires-2
 put-listing-requires-2 c κs = search needs
