@@ -1,6 +1,6 @@
 -- Stretches of numbers one after the other, n of them from 0 up to `total` (the lines of a cut's strips, the positions of a strip's tiles): each
 -- number below `total` lies in exactly one. Assumes nothing.
-use mathlib.Core.Path.{_≡_, refl, sym, _∙_}
+use mathlib.Core.Path.{_≡_, refl}
 use mathlib.Core.Logic.{_⊎_, inl, inr}
 use Prim.Native.Nat.{ℕ, zero, suc, _+_, _-_, _<_, _≤_}
 use native.Mathlib.Omega.{arith}

@@ -1,13 +1,12 @@
--- Parts of slices (specs/Cut.antt) and outer lines: what stands at a place of a part, across it, and in a strip's part of an outer line.
--- Assumes nothing.
-use mathlib.Core.Path.{_≡_, refl, sym, ap, _∙_}
+-- Parts of slices and lines across them (specs/Cut.antt): how long they are, and what stands at a place of one. Assumes nothing.
+use mathlib.Core.Path.{_≡_, _∙_}
 use mathlib.Core.Bool.{Bool}
-use mathlib.Core.List.{List, [], _∷_}
-use Prim.Native.Nat.{ℕ, zero, suc, _+_, _-_, _*_, _<_, _≤_}
+use mathlib.Core.List.{List}
+use Prim.Native.Nat.{ℕ, _+_, _*_, _<_}
 use native.Mathlib.Omega.{arith}
 use lib.IntN.{ℤ, pos}
-use lib.ListN.{length, getD, take, drop}
-use Rattle.line.specs.Uncut.{place, lineAt, positionAt, table, outer}
+use lib.ListN.{length, getD}
+use Rattle.line.specs.Uncut.{place, lineAt, positionAt}
 use Rattle.cuts.specs.Cut.{part, lineAcross}
 use Rattle.line.proofs.Tables.{table-length, table-at}
 use Rattle.line.proofs.Places.{line-back, position-back, place-room}

@@ -1,26 +1,25 @@
--- Line k of a tile is a stretch of line start + k of the uncut squeeze (Lines.antt), if the tile before left its part of the output: the
+-- Line k of a tile is a stretch of line start + k of the uncut squeeze (crate line), if the tile before left its part of the output: the
 -- averages and residuals are those from pair `from t` on, the next average at the tile's end is the next tile's first, and the output before
 -- is the last that the tile before wrote. So the tile's call leaves its part of the uncut squeeze's output. Assumes nothing.
-use mathlib.Core.Path.{_≡_, refl, sym, ap, _∙_}
-use mathlib.Core.Bool.{Bool, true, false, cond}
+use mathlib.Core.Path.{_≡_, sym, ap, _∙_}
+use mathlib.Core.Bool.{true, false, cond}
 use mathlib.Core.List.{List, [], _∷_}
 use mathlib.Core.Logic.{_⊎_, inl, inr}
 use Prim.Native.Nat.{ℕ, zero, suc, _+_, _-_, _*_, _<_, _≤_}
 use native.Mathlib.Omega.{arith}
 use borrow.Author.Tests.{eq-eqb, ne-eqb}
 use lib.IntN.{ℤ, pos}
-use lib.ListN.{length, getD, take, drop, length-take, length-drop}
-use lib.Seq.{length-take-le}
-use Rattle.line.specs.Line.{Line, orElse, nextAverage, before, secondAt, sample}
+use lib.ListN.{length, take, drop, length-take, length-drop}
+use Rattle.line.specs.Line.{Line, nextAverage, before, sample}
 use Rattle.line.specs.Uncut.{Squeeze, squeeze, Fitting, place, lineAt, positionAt, size, table, outer, lineOf, outputAt, uncut}
 use Rattle.cuts.specs.Cut.{Strip, StripFits, isLast, end, tileAverages, tileResiduals, tileSize, part, lineAcross, tileAvg, tileRes, tileOut, tileNext, tilePrev, tileCall}
 use Rattle.tile.specs.Call.{answer, after}
-use Rattle.line.proofs.Tables.{table-length, table-at, table-cong}
-use Rattle.line.proofs.Places.{line-back, position-back, place-room, line-room, position-room}
+use Rattle.line.proofs.Tables.{table-cong}
+use Rattle.line.proofs.Places.{line-room, position-room}
 use Rattle.line.proofs.Lines.{Fits, Stretch, stretch-sample, sample-second, before-next, before-first, next-inside, next-last, lt-or-ge}
 use Rattle.line.proofs.Outputs.{outer-at, outer-part, uncut-at, line-averages, line-residuals, line-avg, line-res, line-next, line-prev}
 use Rattle.cuts.proofs.Parts.{part-length, part-at, across-length, across-at}
-use Rattle.tile.proofs.Accepted.{Arguments, callOf, accepted, accepted-after}
+use Rattle.tile.proofs.Accepted.{Arguments, accepted, accepted-after}
 
 -- ---- the next average of two lines: inside both, at the end of both, or given by an outer line
 next-both : (l u : Line) (i j : ℕ) → i + 1 < u .averages → j + 1 < l .averages → u .avg (i + 1) ≡ l .avg (j + 1) → nextAverage u i ≡ nextAverage l j

@@ -1,17 +1,16 @@
 -- Each sample of the output lies in exactly one tile of a cut (specs/Claim.antt): its line in one strip, its position in one of that strip's tiles.
 -- Where each tile's slice holds its part of the output, each sample then stands in its place. Assumes nothing.
-use mathlib.Core.Path.{_≡_, refl, sym, ap, _∙_}
-use mathlib.Core.List.{List}
+use mathlib.Core.Path.{_≡_, _∙_}
 use Prim.Native.Nat.{ℕ, _+_, _-_, _<_, _≤_}
 use native.Mathlib.Omega.{arith}
-use lib.IntN.{ℤ, pos}
+use lib.IntN.{pos}
 use lib.ListN.{getD}
 use Rattle.line.specs.Uncut.{Squeeze, Fitting, place, size, uncut}
 use Rattle.cuts.specs.Cut.{Strip, StripFits, Cut, tileSize, tileStart, tileOut, State}
 use Rattle.cuts.specs.Claim.{AllHold, LiesIn, placeIn, InOneTile, InItsPlace, EachInItsPlace}
 use Rattle.cuts.proofs.Parts.{part-at}
 use Rattle.cuts.proofs.Stretches.{Which, ends, goes-on, which}
-use Rattle.cuts.proofs.Consecutive.{Consecutive, At, ExactlyOne, exactly-one}
+use Rattle.cuts.proofs.Consecutive.{Consecutive, At, exactly-one}
 
 module _ (s : Squeeze) (fs : Fitting s) where
   tiles-follow : (p : Strip) → StripFits s p → Consecutive (tileStart p) (tileSize s p) (p .tiles) (size s)

@@ -1,19 +1,19 @@
 -- The claim over a whole list of tile calls (demand 3; document 01, "Whole runs"). The invariant along the list: of every strip the tiles that
 -- have run hold their parts of the uncut squeeze's output, and every slice keeps its length. The next tile of a strip finds the one before it
 -- done, so its call is accepted and leaves its part; a refused call leaves the slice as it was. Assumes nothing.
-use mathlib.Core.Path.{_≡_, refl, sym, ap, _∙_}
+use mathlib.Core.Path.{_≡_, refl, ap, _∙_}
 use mathlib.Core.Bool.{Bool, true, false, cond}
 use mathlib.Core.List.{List, [], _∷_}
 use mathlib.Core.Logic.{_⊎_, inl, inr}
-use Prim.Native.Nat.{ℕ, zero, suc, _+_, _*_, _<_, _≤_}
+use Prim.Native.Nat.{ℕ, zero, suc, _*_, _<_, _≤_}
 use native.Mathlib.Omega.{arith}
-use borrow.Author.Tests.{eq-eqb, ne-eqb, eqb-true, eqb-false}
+use borrow.Author.Tests.{eqb-true, eqb-false}
 use lib.Dec.{eqb}
 use lib.IntN.{ℤ}
 use lib.ListN.{length}
 use Rattle.line.specs.Uncut.{Squeeze, Fitting}
 use Rattle.tile.specs.Call.{Call, answer, after}
-use Rattle.cuts.specs.Cut.{Strip, Cut, tileSize, tileOut, tileCall, part, State, Event, runs, other, on, stored, happens, together, allowed, allAllowed, Begins, AllRan}
+use Rattle.cuts.specs.Cut.{Cut, tileSize, tileOut, tileCall, part, State, Event, runs, other, on, stored, happens, together, allowed, allAllowed, Begins, AllRan}
 use Rattle.cuts.specs.Claim as Claim
 use Rattle.cuts.specs.Claim.{AllAccepted, AllHold, GiveUncut}
 use Rattle.line.proofs.Lines.{lt-or-ge}

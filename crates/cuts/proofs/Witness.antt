@@ -1,13 +1,12 @@
 -- Document 01's own case of a cut in two (specs/Witness.antt): what the claim asks, by computation; what the slices then hold, from the claim.
 -- Assumes nothing.
-use mathlib.Core.Path.{_≡_, refl, sym, _∙_}
+use mathlib.Core.Path.{_≡_, refl, _∙_}
 use mathlib.Core.Bool.{true}
 use mathlib.Core.Logic.{inl}
 use mathlib.Core.List.{List, [], _∷_}
-use Prim.Native.Nat.{ℕ, zero, suc, _+_, _*_, _<_, _≤_}
+use Prim.Native.Nat.{ℕ, zero, suc, _<_}
 use native.Mathlib.Omega.{arith}
 use lib.IntN.{ℤ, pos}
-use Rattle.numbers.specs.Numbers.{maxSide, maxSamples}
 use Rattle.arith32.specs.Arith as Arith
 use Rattle.tendency.specs.Tendency as Tend
 use Rattle.pair.specs.Pair as Pair

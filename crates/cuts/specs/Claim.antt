@@ -3,7 +3,7 @@
 use mathlib.Core.Path.{_≡_}
 use mathlib.Core.List.{List, [], _∷_}
 use Prim.Native.Nat.{ℕ, _+_, _-_, _<_, _≤_}
-use lib.IntN.{ℤ, pos}
+use lib.IntN.{pos}
 use lib.ListN.{getD}
 use Rattle.line.specs.Uncut.{Squeeze, place, size, uncut}
 use Rattle.tile.specs.Call.{answer}
@@ -31,11 +31,11 @@ pub record LiesIn (s : Squeeze) (p : Strip) (t k i : ℕ) : Type 0 where
   pub from : tileStart p t ≤ i
   pub below : i < tileStart p t + tileSize s p t
 
--- and there at
+-- and stands in that tile's slice at
 abbrev pub placeIn : Squeeze → Strip → ℕ → ℕ → ℕ → ℕ
 placeIn s p t k i = place (s .horizontal) (p .lines) (tileSize s p t) (k - p .start) (i - tileStart p t)
 
--- it lies in one tile of the cut, and in no other
+-- position i of line k lies in one tile of the cut, and in no other
 pub record InOneTile (s : Squeeze) (cut : Cut s) (k i : ℕ) : Type 0 where
   pub strip : ℕ
   pub tile : ℕ

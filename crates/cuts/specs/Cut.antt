@@ -4,7 +4,7 @@ use mathlib.Core.Path.{_≡_}
 use mathlib.Core.Bool.{Bool, cond}
 use mathlib.Core.List.{List, [], _∷_}
 use Prim.Native.Nat.{ℕ, zero, suc, _+_, _-_, _*_, _<_, _≤_}
-use lib.Dec.{eqb, ltb}
+use lib.Dec.{eqb}
 use lib.IntN.{ℤ, pos}
 use lib.ListN.{length, getD, take, drop}
 use Rattle.numbers.specs.Numbers.{maxSide, maxSamples}
@@ -47,7 +47,7 @@ pub record StripFits (s : Squeeze) (p : Strip) : Type 0 where
   pub side-along : (t : ℕ) → t < p .tiles → tileSize s p t ≤ maxSide
   pub area : (t : ℕ) → t < p .tiles → p .lines * tileSize s p t ≤ maxSamples
 
--- a cut: so many strips, one after the other, over all the lines
+-- a cut: so many strips, one after the other, over all the lines; lines without a strip would not be cut
 pub record Cut (s : Squeeze) : Type 0 where
   pub strips : ℕ
   pub strip : ℕ → Strip

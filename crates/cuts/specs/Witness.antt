@@ -3,7 +3,7 @@
 use mathlib.Core.Path.{_≡_}
 use mathlib.Core.Bool.{true}
 use mathlib.Core.List.{List, [], _∷_}
-use lib.IntN.{ℤ, pos}
+use lib.IntN.{pos}
 use Rattle.line.specs.Uncut.{Squeeze, squeeze, Fitting, uncut}
 use Rattle.tile.specs.Call.{Call, call}
 use Rattle.cuts.specs.Cut.{Strip, Cut, State, Event, runs, other, together, allAllowed, Begins, AllRan}

@@ -1,11 +1,11 @@
 -- On the domain of demand 2 an accepted tile call without outer lines leaves the standard's output (specs/Plain.antt): it makes the uncut squeeze,
 -- which is the standard's there (crate line). Assumes nothing.
-use mathlib.Core.Path.{_≡_, refl, sym, _∙_}
-use mathlib.Core.List.{List, []}
+use mathlib.Core.Path.{_≡_}
+use mathlib.Core.List.{[]}
 use Rattle.line.specs.Uncut.{uncut}
 use Rattle.line.specs.Plain.{AllInDomain, IsStandard}
 use Rattle.line.proofs.Plain.{uncut-standard}
-use Rattle.tile.specs.Call.{Call, answer, squeezeOf, after}
+use Rattle.tile.specs.Call.{Call, answer, squeezeOf}
 use Rattle.tile.specs.Plain.{InDomainCall, TileIsStandard}
 use Rattle.tile.proofs.Fitted.{fits, fitting, made}
 

@@ -1,7 +1,7 @@
 -- Demand 2 for tile calls: without outer lines, and where every sample read or made lies in the domain, the output slice is the standard's.
 -- Statements only; proofs/AsStandard.antt proves it.
 use mathlib.Core.Path.{_≡_}
-use mathlib.Core.List.{List, []}
+use mathlib.Core.List.{[]}
 use Rattle.line.specs.Plain.{AllInDomain, IsStandard}
 use Rattle.tile.specs.Call.{Call, answer, squeezeOf, after}
 
