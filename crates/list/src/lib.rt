@@ -98,14 +98,13 @@ fn raised(c: Channel, horizontal: bool) -> Channel
     raised
 }
 
-// Question 11, of one channel's shifts. One of 255 has no room for one more.
+// Question 11, of one channel's shifts: a channel that is not meta has room for
+// one more in the step's direction.
 fn keeps_shifts(c: Channel, horizontal: bool) -> bool
     ensures { λ r. ⌜ r ≡ Questions.shiftsKept horizontal c ⌝ }
 {
-    if shift(c, horizontal) == Channel::META {
-        return c.is_meta();
-    }
-    raised(c, horizontal).has_shifts_allowed()
+    let room = shift(c, horizontal) < Channel::MAX_SHIFT;
+    c.is_meta() | (c.has_shifts_allowed() & room)
 }
 
 fn halved(side: u16) -> u16
