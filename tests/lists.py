@@ -11,7 +11,7 @@ names itself as rows with the answer written out.
 
 The stream is samples of four bytes, least byte first. A case is its source (1 the Rust, 2 the rules), its kind (1 to 4
 as below), how many samples follow, and these:
-    step    list, step, answer to questions 7 to 11, answer of the list's step, list afterwards if that is 0
+    step    list, step, answer, list afterwards if that is 0
     plan    list, plan, answer, list afterwards if that is 0
     default list, answer, plan
     coarse  list, coarse count
@@ -122,8 +122,8 @@ def plan_samples(plan):
     return array_samples(plan, (0, 0, 0), MAX_STEPS)
 
 
-def put_step(source, flat, step, question, answer, after):
-    put(source, STEP, list_samples(flat), step, [question, answer], [] if answer else list_samples(after))
+def put_step(source, flat, step, answer, after):
+    put(source, STEP, list_samples(flat), step, [answer], [] if answer else list_samples(after))
 
 
 def put_plan(source, flat, plan, answer, after):
@@ -179,10 +179,9 @@ def rust_list(text):
     channels, answer = start, 0
     for step, said in zip(steps, answers.strip().removeprefix('ok').split('/')):
         refused = REFUSALS[said.split()[1]] if said.split()[0] == 'error' else 0
-        question = instead(6, channels, step) or refused or instead(10, channels, step)
-        answer = instead(5, channels) or question
+        answer = instead(5, channels) or instead(6, channels, step) or refused or instead(10, channels, step)
         after = channels if answer else channels_of(said)
-        put_step(RUST, held(channels), step, question, answer, held(after))
+        put_step(RUST, held(channels), step, answer, held(after))
         if answer:
             break
         channels = after
@@ -202,9 +201,8 @@ def rust_default(text):
 # ---- cases of our own, by the rules above
 def own_step(flat, step):
     channels = meant(flat)
-    question = judge_step(step, channels)
-    answer = judge_flat(flat) or question
-    put_step(OWN, flat, step, question, answer, flat if answer else held(take_step(step, channels)))
+    answer = judge_flat(flat) or judge_step(step, channels)
+    put_step(OWN, flat, step, answer, flat if answer else held(take_step(step, channels)))
     return answer
 
 
@@ -233,12 +231,14 @@ STEP_ROWS = """
 6 5 0 0 ; 4 4 30 0                 | h in 0 2        | 10 | the last channel of the range counts
 4 4 31 0                           | v in 0 1        | 4  | a shift of 31 comes in
 4 4 m 0                            | h in 0 1        | 4  | meta in one direction only
+1 1 254 m                          | h in 0 1        | 4  | one more would make it meta
 7 3 m m                            | h in 0 1        | 0  | meta stays meta
 255 * 2 2 0 0                      | h in 0 1        | 0  | 256 channels
 256 * 2 2 0 0                      | h in 0 1        | 10 | 257 channels
 128 * 2 2 0 0                      | v out 0 128     | 0  | 256 channels
 129 * 2 2 0 0                      | v out 0 128     | 10 | 257 channels
 257 * 2 2 0 0                      | h in 0 1        | 3  | 257 channels come in
+300 * 2 2 0 0                      | h in 299 1      | 3  | 3 before 6
                                    | h in 0 1        | 3  | no channel comes in
 3 * 6 5 0 0                        | h in 1 2        | 0  | the range ends at the count
 3 * 6 5 0 0                        | h in 1 3        | 6  | it ends past the count

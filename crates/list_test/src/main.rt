@@ -156,11 +156,11 @@ fn step_agrees(bytes: &[u8], at: usize) -> bool
         begin: number16_at(bytes, end + 8),
         number: number16_at(bytes, end + 12),
     };
-    let answer = number_at(bytes, end + 20);
+    let answer = number_at(bytes, end + 16);
     let stepped = list.step(step);
-    (list.check_squeeze_params(step) as usize == number_at(bytes, end + 16))
+    (list.check_squeeze_params(step) as usize == answer)
         & (stepped.answer as usize == answer)
-        & same_list(stepped.list, list_after(bytes, end + 24, answer, list))
+        & same_list(stepped.list, list_after(bytes, end + 20, answer, list))
 }
 
 fn plan_agrees(bytes: &[u8], at: usize) -> bool

@@ -6,7 +6,7 @@ ghost use mathlib.Core.List.{[]};
 ghost use Prim.Native.Nat.{_+_, _<_, _≤_};
 ghost use lib.ListN.{length};
 ghost use Rattle.list.specs.Tables.{all};
-ghost use Rattle.list.specs.Lists.{maxChannels, maxSteps, channels, packed, halved};
+ghost use Rattle.list.specs.Lists.{maxChannels, maxSteps, channels, packed};
 ghost use Rattle.list.specs.Questions.{judgeList};
 ghost use Rattle.plan.specs.Steps as Spec;
 ghost use Rattle.plan.specs.Adding.{pushed, appended};
@@ -16,6 +16,7 @@ use channel::Channel;
 use list::ChannelList;
 use list::Step;
 use list::Stepped;
+use list::halved;
 use numbers::REFUSED_COUNT;
 use numbers::REFUSED_DEFAULT;
 use numbers::REFUSED_FORM;
@@ -102,12 +103,6 @@ impl Steps {
     {
         if test { self.push(step) } else { self }
     }
-}
-
-fn halved(side: u16) -> u16
-    ensures { λ r. ⌜ r ≡ halved side ⌝ }
-{
-    side - side / 2
 }
 
 fn lowered(side: u16) -> u16
