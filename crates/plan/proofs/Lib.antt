@@ -3,7 +3,7 @@ pub mod Length
 pub mod Appended
 pub mod Packed
 pub mod Counts
-pub mod Leading
+pub mod Passed
 pub mod Parts
 pub mod Flags
 pub mod Form

@@ -2,4 +2,5 @@ pub mod Steps
 pub mod Default
 pub mod Plans
 pub mod Adding
+pub mod Counted
 pub mod Standard
