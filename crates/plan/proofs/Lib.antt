@@ -12,3 +12,4 @@ pub mod Reached
 pub mod Answers
 pub mod Judged
 pub mod AsStandard
+pub mod DefaultStandard

@@ -4,3 +4,4 @@ pub mod Plans
 pub mod Adding
 pub mod Counted
 pub mod Standard
+pub mod StandardDefault
