@@ -9,12 +9,13 @@ channel is `W H HS VS` or `W H m m`, a step `h|v in|out FIRST NUMBER`. Document 
 through: INSTEAD has every such difference. The other cases are made here by document 01's rules (rules.py), those that it
 names itself as rows with the answer written out.
 
-The stream is samples of four bytes, least byte first. A case is its source (1 the Rust, 2 the rules), its kind (1 to 4
+The stream is samples of four bytes, least byte first. A case is its source (1 the Rust, 2 the rules), its kind (1 to 5
 as below), how many samples follow, and these:
-    step    list, step, answer to questions 7 to 11, answer of the list's step, list afterwards if that is 0
+    step    list, step, answer, list afterwards if that is 0
     plan    list, plan, answer, list afterwards if that is 0
     default list, answer, plan
     coarse  list, coarse count
+    meant   list, plan, answer, plan that is meant
 where
     list    count, how many entries follow, width, height and hshift + 256 * vshift of each
     plan    count, how many entries follow, flags, first and number of each
@@ -28,7 +29,7 @@ import rules
 from rules import MAX_CHANNELS, MAX_SAMPLES, MAX_SHIFT, MAX_STEPS, META, STOP, default_plan, is_meta, total
 
 RUST, OWN = 1, 2
-STEP, PLAN, DEFAULT, COARSE = 1, 2, 3, 4
+STEP, PLAN, DEFAULT, COARSE, MEANT = 1, 2, 3, 4, 5
 PROGRAM_READS = 524_288
 
 # ---- document 01's rules, over those of rules.py, with a refusal's number as the answer
@@ -73,21 +74,29 @@ def plan_of(steps, unused=(), count=None):
     return (len(steps) if count is None else count, [(h + 2 * i, f, n) for h, i, f, n in steps] + list(unused))
 
 
-def judge_plan(flat, plan):
-    """The answer to questions 3 to 11, and the list that the plan leaves."""
+def meant_plan(flat, plan):
+    """The answer to questions 3 to 6, and the plan that is meant."""
     count, entries = plan
     channels = meant(flat)
     form = judge_flat(flat)
     if form == 3 or count > MAX_STEPS:
-        return 3, flat
+        return 3, plan_of([])
     if form == 4 or any(flags > 3 for flags, _, _ in entries[:count]):
-        return 4, flat
+        return 4, plan_of([])
     if form:
-        return form, flat
+        return form, plan_of([])
     if count == 0 and all(is_meta(c) for c in channels):
-        return 11, flat
-    steps = [(flags % 2, flags // 2, f, n) for flags, f, n in entries[:count]] or default_plan(channels)
-    for step in steps:
+        return 11, plan_of([])
+    return 0, plan if count else plan_of(default_plan(channels))
+
+
+def judge_plan(flat, plan):
+    """The answer to questions 3 to 11, and the list that the plan leaves."""
+    answer, (count, entries) = meant_plan(flat, plan)
+    if answer:
+        return answer, flat
+    channels = meant(flat)
+    for step in [(flags % 2, flags // 2, f, n) for flags, f, n in entries[:count]]:
         answer = judge_step(step, channels)
         if answer:
             return answer, flat
@@ -122,8 +131,8 @@ def plan_samples(plan):
     return array_samples(plan, (0, 0, 0), MAX_STEPS)
 
 
-def put_step(source, flat, step, question, answer, after):
-    put(source, STEP, list_samples(flat), step, [question, answer], [] if answer else list_samples(after))
+def put_step(source, flat, step, answer, after):
+    put(source, STEP, list_samples(flat), step, [answer], [] if answer else list_samples(after))
 
 
 def put_plan(source, flat, plan, answer, after):
@@ -132,6 +141,11 @@ def put_plan(source, flat, plan, answer, after):
 
 def put_default(source, flat, answer, plan):
     put(source, DEFAULT, list_samples(flat), [answer], plan_samples(plan))
+
+
+def put_meant(flat, plan):
+    answer, steps = meant_plan(flat, plan)
+    put(OWN, MEANT, list_samples(flat), plan_samples(plan), [answer], plan_samples(steps))
 
 
 def put_coarse(flat):
@@ -179,10 +193,9 @@ def rust_list(text):
     channels, answer = start, 0
     for step, said in zip(steps, answers.strip().removeprefix('ok').split('/')):
         refused = REFUSALS[said.split()[1]] if said.split()[0] == 'error' else 0
-        question = instead(6, channels, step) or refused or instead(10, channels, step)
-        answer = instead(5, channels) or question
+        answer = instead(5, channels) or instead(6, channels, step) or refused or instead(10, channels, step)
         after = channels if answer else channels_of(said)
-        put_step(RUST, held(channels), step, question, answer, held(after))
+        put_step(RUST, held(channels), step, answer, held(after))
         if answer:
             break
         channels = after
@@ -202,9 +215,8 @@ def rust_default(text):
 # ---- cases of our own, by the rules above
 def own_step(flat, step):
     channels = meant(flat)
-    question = judge_step(step, channels)
-    answer = judge_flat(flat) or question
-    put_step(OWN, flat, step, question, answer, flat if answer else held(take_step(step, channels)))
+    answer = judge_flat(flat) or judge_step(step, channels)
+    put_step(OWN, flat, step, answer, flat if answer else held(take_step(step, channels)))
     return answer
 
 
@@ -233,12 +245,14 @@ STEP_ROWS = """
 6 5 0 0 ; 4 4 30 0                 | h in 0 2        | 10 | the last channel of the range counts
 4 4 31 0                           | v in 0 1        | 4  | a shift of 31 comes in
 4 4 m 0                            | h in 0 1        | 4  | meta in one direction only
+1 1 254 m                          | h in 0 1        | 4  | one more would make it meta
 7 3 m m                            | h in 0 1        | 0  | meta stays meta
 255 * 2 2 0 0                      | h in 0 1        | 0  | 256 channels
 256 * 2 2 0 0                      | h in 0 1        | 10 | 257 channels
 128 * 2 2 0 0                      | v out 0 128     | 0  | 256 channels
 129 * 2 2 0 0                      | v out 0 128     | 10 | 257 channels
 257 * 2 2 0 0                      | h in 0 1        | 3  | 257 channels come in
+300 * 2 2 0 0                      | h in 299 1      | 3  | 3 before 6
                                    | h in 0 1        | 3  | no channel comes in
 3 * 6 5 0 0                        | h in 1 2        | 0  | the range ends at the count
 3 * 6 5 0 0                        | h in 1 3        | 6  | it ends past the count
@@ -294,6 +308,7 @@ def plan_rows():
     for why, flat, plan, answer in (
             ('64 steps', many, plan_of(steps), 0),
             ('65 steps', many, plan_of(steps, count=65), 3),
+            ('no channel', held([]), plan_of([]), 3),
             ('more steps than 16 bits hold', many, plan_of(steps, count=2147483647), 3),
             ('an unused step of any value', many, plan_of(steps[:63], unused), 0),
             ('the same step in use', many, plan_of(steps[:63], unused, count=64), 4),
@@ -307,13 +322,16 @@ def plan_rows():
             ('3 of the steps before 4', held([plain, meta]), plan_of(steps, count=65), 3),
             ('4 of the steps before 5', held([(65535, 65535, 0, 0)]), (1, [(4, 0, 1)]), 4),
             ('5 before 11', held([(65535, 65535, META, META)]), plan_of([]), 5),
+            ('the default plan of one meta channel', held([meta]), plan_of([]), 11),
             ('the default plan without a plain channel', held([meta] * 3), plan_of([]), 11),
+            ('a plan of one meta channel', held([meta]), plan_of([(1, 1, 0, 1)]), 0),
             ('a plan without a plain channel', held([meta] * 3), plan_of([(1, 1, 0, 3)]), 0),
             ('the default plan meets a side 0', held([(20, 20, 0, 0), (0, 5, 0, 0)]), plan_of([]), 9),
             ('the default plan meets a shift of 31', held([late]), plan_of([]), 10),
             ('the default plan meets 257 channels', held([(9, 9, 0, 0)] * 85), plan_of([]), 10),
             ('the default plan meets 256 channels', held([(9, 9, 0, 0)] * 64), plan_of([]), 0)):
         assert own_plan(flat, plan) == answer, why
+        put_meant(flat, plan)
 
 
 def sweeps():

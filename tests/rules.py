@@ -93,7 +93,7 @@ def step(channels, horizontal, inplace, first, number):
     averages = [part(c, horizontal, False) for c in channels[first:end]]
     residuals = [part(c, horizontal, True) for c in channels[first:end]]
     ask(len(channels) + number <= MAX_CHANNELS, 10)
-    ask(all(is_meta(c) or max(c[2:]) <= MAX_SHIFT for c in averages), 10)
+    ask(all(is_meta(c) or max(a[2:]) <= MAX_SHIFT for c, a in zip(channels[first:end], averages)), 10)
     after = channels[end:]
     return channels[:first] + averages + (residuals + after if inplace else after + residuals)
 

@@ -3,7 +3,8 @@ use mathlib.Core.Path.{_≡_, refl, sym, _∙_}
 use mathlib.Core.Bool.{Bool, true, false, not}
 use Prim.Native.Nat.{ℕ, suc}
 use native.Mathlib.Omega.{arith}
-use borrow.Author.Tests.{not-true, not-false}
+use lib.Dec.{eqb}
+use borrow.Author.Tests.{not-true, not-false, eqb-true, eqb-false}
 use Rattle.list.specs.Questions.{ask}
 
 -- the code's r is the answer
@@ -18,3 +19,11 @@ module _ {r answer : Bool} (e : r ≡ answer) where
 pub passed : (answer : Bool) (number next : ℕ) → ask answer (suc number) next ≡ 0 → (answer ≡ true) × (next ≡ 0)
 passed true number next h = (refl, h)
 passed false number next h = absurd (omega arith)
+
+-- an answer and the next one, where the first refuses nothing
+pub none-refused : (a b : ℕ) → ask (eqb a 0) a b ≡ 0 → (a ≡ 0) × (b ≡ 0)
+none-refused a b h = go (eqb a 0) refl h
+  where
+    go : (t : Bool) → eqb a 0 ≡ t → ask t a b ≡ 0 → (a ≡ 0) × (b ≡ 0)
+    go true e h = (eqb-true a 0 e, h)
+    go false e h = absurd (eqb-false a 0 e h)

@@ -48,7 +48,7 @@ module _ (s : Step) (cs : List Channel) where
     parts-allowed : (g : ℕ → ℕ) → all shiftsAllowed (map (part g) (range s cs)) ≡ true
     parts-allowed g =
         let kept = shiftsKept (s .horizontal) in
-        all-map (part g) kept kept shiftsAllowed (λ c k _. part-allowed g (s .horizontal) c ∙ k) (range s cs) (ok .kept) (ok .kept)
+        all-map (part g) kept kept shiftsAllowed (λ c k _. part-allowed g (s .horizontal) c k) (range s cs) (ok .kept) (ok .kept)
 
     -- a part is of its channel's kind; q is the kind or its opposite
     parts-kind : (g : ℕ → ℕ) (q : Bool → Bool) → all (λ c. q (isMeta c)) (range s cs) ≡ true → all (λ c. q (isMeta c)) (map (part g) (range s cs)) ≡ true

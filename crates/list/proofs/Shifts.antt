@@ -1,19 +1,14 @@
 -- One channel under a step: its side and its shift in the step's direction. Assumes nothing.
 use mathlib.Core.Path.{_≡_, refl, sym, ap, _∙_}
-use mathlib.Core.Bool.{Bool, true, false, cond, _&&_, _||_, true≢false, and-eq-true-iff}
-use mathlib.Core.Logic.{_⊎_, inl, inr, ⊎-elim}
+use mathlib.Core.Bool.{Bool, true, false, cond, _&&_, _||_, and-comm, and-false, or-true, and-eq-true-iff}
 use Prim.Native.Nat.{ℕ, _+_, _<_, _≤_}
 use native.Mathlib.Omega.{arith}
-use lib.Dec.{eqb, leb}
-use borrow.Author.Tests.{eqb-true, leb-true, ne-eqb}
+use lib.Dec.{leb, ltb}
+use borrow.Author.Tests.{ltb-true, ltb-false, leb-true, le-leb, lt-leb, ne-eqb}
 use Rattle.channel.specs.declared.Channel.{Channel}
 use Rattle.channel.specs.Channel.{maxShift, metaShift, isMeta, shiftsAllowed}
 use Rattle.list.specs.Lists.{raised, sided}
 use Rattle.list.specs.Questions.{shiftsKept}
-
-either : (a b : Bool) → (a || b) ≡ true → (a ≡ true) ⊎ (b ≡ true)
-either true b h = inl refl
-either false b h = inr h
 
 -- the shift in the step's direction
 abbrev pub shiftOf : Bool → Channel → ℕ
@@ -42,33 +37,39 @@ unfolding isMeta
 lifted-plain true c b = let n = ne-eqb (c .hshift + 1) metaShift (λ (e : c .hshift + 1 ≡ metaShift). omega arith) in rw n
 lifted-plain false c b = let n = ne-eqb (c .hshift) metaShift (λ (e : c .hshift ≡ metaShift). omega arith) in rw n
 
--- shifts that are allowed are at most 255
-small : (x y : ℕ) → (eqb x metaShift && eqb y metaShift || leb x maxShift && leb y maxShift) ≡ true → (x ≤ metaShift) × (y ≤ metaShift)
-small x y h =
-    ⊎-elim
-    (λ m. let b = and-eq-true-iff (eqb x metaShift) (eqb y metaShift) .0 m in omega (arith, eqb-true x metaShift (b .0), eqb-true y metaShift (b .1)))
-    (λ m. let b = and-eq-true-iff (leb x maxShift) (leb y maxShift) .0 m in omega (arith, leb-true x maxShift (b .0), leb-true y maxShift (b .1)))
-    (either (eqb x metaShift && eqb y metaShift) (leb x maxShift && leb y maxShift) h)
-
--- where question 11 lets a channel through, the raised shift is at most 255
-pub kept-below : (h : Bool) (c : Channel) → shiftsKept h c ≡ true → isMeta c ≡ false → shiftOf h c < metaShift
-unfolding raised isMeta shiftsAllowed shiftsKept
-kept-below true c k e = let s = small (c .hshift + 1) (c .vshift) (rw e at k) in omega arith
-kept-below false c k e = let s = small (c .hshift) (c .vshift + 1) (rw e at k) in omega arith
-
-pub kept-meta : (h : Bool) (c : Channel) → isMeta c ≡ true → shiftsKept h c ≡ true
-unfolding shiftsAllowed shiftsKept
-kept-meta h c e = rw (raised-meta h c e, e)
-
--- a shift of 255 is meta's or cannot be raised
-pub kept-full : (h : Bool) (c : Channel) → shiftOf h c ≡ metaShift → isMeta c ≡ shiftsKept h c
-kept-full h c e = go (isMeta c) (shiftsKept h c) refl refl
+-- a shift x has room for one more, beside an answer y on the other shift
+room-left : (x : ℕ) (y : Bool) → (leb (x + 1) maxShift && y) ≡ ((leb x maxShift && y) && ltb x maxShift)
+room-left x y = go (ltb x maxShift) y refl
   where
-    go : (m k : Bool) → isMeta c ≡ m → shiftsKept h c ≡ k → isMeta c ≡ shiftsKept h c
-    go true true p q = p ∙ sym q
-    go true false p q = absurd (true≢false (sym (kept-meta h c p) ∙ q))
-    go false true p q = let b = kept-below h c q p in absurd (omega arith)
-    go false false p q = p ∙ sym q
+    go : (r z : Bool) → ltb x maxShift ≡ r → (leb (x + 1) maxShift && z) ≡ ((leb x maxShift && z) && ltb x maxShift)
+    go true true e = let b = ltb-true x maxShift e in rw (le-leb (x + 1) maxShift (omega arith), le-leb x maxShift (omega arith), e)
+    go true false e = let b = ltb-true x maxShift e in rw (le-leb (x + 1) maxShift (omega arith), le-leb x maxShift (omega arith))
+    go false z e = let b = ltb-false x maxShift e in rw (lt-leb (x + 1) maxShift (omega arith), e) (sym (and-false (leb x maxShift && z)))
+
+-- question 11, as the code asks it
+pub kept-found : (h : Bool) (c : Channel) → shiftsKept h c ≡ (isMeta c || (shiftsAllowed c && ltb (shiftOf h c) maxShift))
+unfolding raised shiftsAllowed shiftsKept
+kept-found h c = go (isMeta c) h
+  where
+    go : (m h : Bool) → (m || (leb (cond m c (lifted h c) .hshift) maxShift && leb (cond m c (lifted h c) .vshift) maxShift))
+        ≡ (m || ((m || (leb (c .hshift) maxShift && leb (c .vshift) maxShift)) && ltb (shiftOf h c) maxShift))
+    go true h = refl
+    go false true = room-left (c .hshift) (leb (c .vshift) maxShift)
+    go false false =
+        and-comm (leb (c .hshift) maxShift) (leb (c .vshift + 1) maxShift)
+        ∙ room-left (c .vshift) (leb (c .hshift) maxShift)
+        ∙ ap (λ b. b && ltb (c .vshift) maxShift) (and-comm (leb (c .vshift) maxShift) (leb (c .hshift) maxShift))
+
+-- where question 11 lets a channel that is not meta through, its shifts are at most 30 afterwards
+kept-shifts : (h : Bool) (c : Channel) → shiftsKept h c ≡ true → isMeta c ≡ false → (lifted h c .hshift ≤ maxShift) × (lifted h c .vshift ≤ maxShift)
+unfolding raised shiftsKept
+kept-shifts h c k e =
+    let b = and-eq-true-iff (leb (lifted h c .hshift) maxShift) (leb (lifted h c .vshift) maxShift) .0 (rw e at k) in
+    (leb-true _ _ (b .0), leb-true _ _ (b .1))
+
+pub kept-below : (h : Bool) (c : Channel) → shiftsKept h c ≡ true → isMeta c ≡ false → shiftOf h c < metaShift
+kept-below true c k e = let s = kept-shifts true c k e in omega arith
+kept-below false c k e = let s = kept-shifts false c k e in omega arith
 
 -- the channel d is c with another side: it has c's shifts
 pub sided-below : (g : ℕ → ℕ) (h : Bool) (c d : Channel) → d ≡ sided g h c → shiftsKept h c ≡ true → isMeta d ≡ false → shiftOf h d < metaShift
@@ -88,15 +89,23 @@ plain-shifts c a e =
     let b = and-eq-true-iff (leb (c .hshift) maxShift) (leb (c .vshift) maxShift) .0 (rw e at a) in
     (leb-true _ _ (b .0), leb-true _ _ (b .1))
 
+meta-allowed : (c : Channel) → isMeta c ≡ true → shiftsAllowed c ≡ true
+unfolding shiftsAllowed
+meta-allowed c e = rw e
+
+low-allowed : (c : Channel) → (c .hshift ≤ maxShift) × (c .vshift ≤ maxShift) → shiftsAllowed c ≡ true
+unfolding shiftsAllowed
+low-allowed c b = rw (le-leb (c .hshift) maxShift (b .0), le-leb (c .vshift) maxShift (b .1)) (or-true (isMeta c))
+
 module _ (g : ℕ → ℕ) (h : Bool) (c : Channel) where
   -- question 11 is question 4 of the part
-  pub part-allowed : shiftsAllowed (raised h (sided g h c)) ≡ shiftsKept h c
-  unfolding isMeta shiftsAllowed raised shiftsKept
-  part-allowed = go (isMeta c)
+  pub part-allowed : shiftsKept h c ≡ true → shiftsAllowed (raised h (sided g h c)) ≡ true
+  unfolding isMeta
+  part-allowed k = go (isMeta c) refl
     where
-      go : (m : Bool) → shiftsAllowed (cond m (sided g h c) (lifted h (sided g h c))) ≡ shiftsAllowed (cond m c (lifted h c))
-      go true = refl
-      go false = refl
+      go : (m : Bool) → isMeta c ≡ m → shiftsAllowed (raised h (sided g h c)) ≡ true
+      go true e = ap shiftsAllowed (raised-meta h (sided g h c) e) ∙ meta-allowed (sided g h c) e
+      go false e = ap shiftsAllowed (raised-plain h (sided g h c) e) ∙ low-allowed (lifted h (sided g h c)) (kept-shifts h c k e)
 
   -- "meta stays meta", and another channel does not become meta
   pub part-kind : shiftsAllowed c ≡ true → isMeta (raised h (sided g h c)) ≡ isMeta c

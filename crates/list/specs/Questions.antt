@@ -7,7 +7,7 @@ use lib.Dec.{eqb, leb, ltb}
 use lib.ListN.{length, getD}
 use Rattle.numbers.specs.Numbers.{maxSamples, refusedCount, refusedForm, refusedSamples, refusedRange, refusedKinds, refusedPlace, refusedEmpty, refusedRoom}
 use Rattle.channel.specs.declared.Channel.{Channel}
-use Rattle.channel.specs.Channel.{isMeta, shiftsAllowed}
+use Rattle.channel.specs.Channel.{maxShift, isMeta, shiftsAllowed}
 use Rattle.list.specs.declared.ChannelList.{ChannelList}
 use Rattle.list.specs.declared.Step.{Step}
 use Rattle.list.specs.declared.Stepped.{Stepped}
@@ -66,9 +66,9 @@ placeAllowed s cs = not (isMeta (channelOf cs (s .begin))) || s .inplace
 unfoldable pub hasSides : Channel → Bool
 hasSides c = ltb 0 (c .width) && ltb 0 (c .height)
 
--- 11. "Will there be at most 256 channels and no shift above 30?"
+-- 11. "Will there be at most 256 channels and no shift above 30?": a meta channel stays, and any other has both shifts at most 30 afterwards
 unfoldable pub shiftsKept : Bool → Channel → Bool
-shiftsKept horizontal c = shiftsAllowed (raised horizontal c)
+shiftsKept horizontal c = isMeta c || (leb (raised horizontal c .hshift) maxShift && leb (raised horizontal c .vshift) maxShift)
 
 unfoldable pub roomLeft : Step → List Channel → Bool
 roomLeft s cs = leb (length cs + s .number) maxChannels && all (shiftsKept (s .horizontal)) (range s cs)

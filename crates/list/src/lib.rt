@@ -98,17 +98,17 @@ fn raised(c: Channel, horizontal: bool) -> Channel
     raised
 }
 
-// Question 11, of one channel's shifts. One of 255 has no room for one more.
+// Question 11, of one channel's shifts: a channel that is not meta has room for
+// one more in the step's direction.
 fn keeps_shifts(c: Channel, horizontal: bool) -> bool
     ensures { λ r. ⌜ r ≡ Questions.shiftsKept horizontal c ⌝ }
 {
-    if shift(c, horizontal) == Channel::META {
-        return c.is_meta();
-    }
-    raised(c, horizontal).has_shifts_allowed()
+    let room = shift(c, horizontal) < Channel::MAX_SHIFT;
+    c.is_meta() | (c.has_shifts_allowed() & room)
 }
 
-fn halved(side: u16) -> u16
+// "the side halved, rounded up".
+pub fn halved(side: u16) -> u16
     ensures { λ r. ⌜ r ≡ Lists.halved side ⌝ }
 {
     ((side as u32 + 1) / 2) as u16
@@ -295,7 +295,7 @@ impl ChannelList {
     }
 
     // Questions 7 to 11.
-    pub fn check_squeeze_params(self, step: Step) -> u32
+    fn judge_step(self, step: Step) -> u32
         ensures { λ r. ⌜ r ≡ Questions.judgeStep step (Lists.channels self) ⌝ }
     {
         if !self.range_allowed(step) {
@@ -314,6 +314,17 @@ impl ChannelList {
             return REFUSED_ROOM;
         }
         0
+    }
+
+    // Questions 3 to 5 of the list, then 7 to 11 of the step on it.
+    pub fn check_squeeze_params(self, step: Step) -> u32
+        ensures { λ r. ⌜ r ≡ Questions.stepAnswer step self ⌝ }
+    {
+        let answer = self.judge();
+        if answer != 0 {
+            return answer;
+        }
+        self.judge_step(step)
     }
 
     // Where the residuals start in the list that a step leaves.
@@ -380,19 +391,9 @@ impl ChannelList {
     pub fn step(self, step: Step) -> Stepped
         ensures { λ r. ⌜ r ≡ Questions.taken step self ⌝ }
     {
-        let refusal = self.judge();
-        if refusal != 0 {
-            return Stepped {
-                answer: refusal,
-                list: self,
-            };
-        }
-        let refusal = self.check_squeeze_params(step);
-        if refusal != 0 {
-            return Stepped {
-                answer: refusal,
-                list: self,
-            };
+        let answer = self.check_squeeze_params(step);
+        if answer != 0 {
+            return Stepped { answer, list: self };
         }
         Stepped {
             answer: 0,

@@ -23,6 +23,8 @@ const DEFAULT: usize = 3;
 
 const COARSE: usize = 4;
 
+const MEANT: usize = 5;
+
 // The bytes of an entry of a list or a plan.
 const ENTRY: usize = 12;
 
@@ -156,11 +158,11 @@ fn step_agrees(bytes: &[u8], at: usize) -> bool
         begin: number16_at(bytes, end + 8),
         number: number16_at(bytes, end + 12),
     };
-    let answer = number_at(bytes, end + 20);
+    let answer = number_at(bytes, end + 16);
     let stepped = list.step(step);
-    (list.check_squeeze_params(step) as usize == number_at(bytes, end + 16))
+    (list.check_squeeze_params(step) as usize == answer)
         & (stepped.answer as usize == answer)
-        & same_list(stepped.list, list_after(bytes, end + 24, answer, list))
+        & same_list(stepped.list, list_after(bytes, end + 20, answer, list))
 }
 
 fn plan_agrees(bytes: &[u8], at: usize) -> bool
@@ -184,6 +186,16 @@ fn default_agrees(bytes: &[u8], at: usize) -> bool
     (answer == number_at(bytes, end)) & same_steps(planned.steps, steps_at(bytes, end + 4))
 }
 
+fn meant_agrees(bytes: &[u8], at: usize) -> bool
+    requires { ⌜ at < 0x9000_0000_0000_0000 ⌝ }
+{
+    let middle = array_end(bytes, at);
+    let end = array_end(bytes, middle);
+    let meant = plan::meant_steps(list_at(bytes, at), steps_at(bytes, middle));
+    let answer = meant.answer as usize;
+    (answer == number_at(bytes, end)) & same_steps(meant.steps, steps_at(bytes, end + 4))
+}
+
 fn coarse_agrees(bytes: &[u8], at: usize) -> bool
     requires { ⌜ at < 0x9000_0000_0000_0000 ⌝ }
 {
@@ -198,6 +210,7 @@ fn agrees(bytes: &[u8], at: usize, kind: usize) -> bool
         PLAN => plan_agrees(bytes, at),
         DEFAULT => default_agrees(bytes, at),
         COARSE => coarse_agrees(bytes, at),
+        MEANT => meant_agrees(bytes, at),
         _ => false,
     }
 }
@@ -248,6 +261,7 @@ fn report(bytes: &[u8]) {
     say(b"own, plans ", tally(bytes, OWN, PLAN));
     say(b"own, default plans ", tally(bytes, OWN, DEFAULT));
     say(b"own, coarse counts ", tally(bytes, OWN, COARSE));
+    say(b"own, steps meant ", tally(bytes, OWN, MEANT));
 }
 
 fn main() {

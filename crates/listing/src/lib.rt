@@ -219,7 +219,8 @@ fn put_listing(bytes: &[u8], text: &mut [u8]) -> usize
         return put_numbered(b"refused ", read.answer as usize, 0, text);
     }
     let reached = plan::rewrite(read.list, read.steps).list;
-    put_plan(plan::meant_steps(read.list, read.steps), reached, text)
+    let steps = plan::meant_steps(read.list, read.steps).steps;
+    put_plan(steps, reached, text)
 }
 
 // The listing of the record over the front of `text`; the rest of it stays. A

@@ -1,9 +1,9 @@
--- The default plan or its refusal (`planned` of specs/Plans.antt) and the rewritten list or the refusal (`rewritten`), from the answers that lead to
--- them. Assumes nothing.
+-- The steps that are meant or the refusal (`planned` and `meantSteps` of specs/Plans.antt) and the rewritten list or the refusal (`rewritten`), from
+-- the answers that lead to them. Assumes nothing.
 use mathlib.Core.Bool.{Bool, true, false, cond, _&&_, and-eq-true-iff}
 use mathlib.Core.Path.{_≡_, refl, sym, ap, _∙_}
 use mathlib.Core.List.{List, [], _∷_}
-use Prim.Native.Nat.{ℕ, _<_, _≤_, min}
+use Prim.Native.Nat.{ℕ, zero, suc, _<_, _≤_, min}
 use native.Mathlib.Omega.{arith}
 use lib.Dec.{eqb, leb}
 use lib.ListN.{length}
@@ -14,7 +14,8 @@ use Rattle.list.specs.declared.Step.{Step}
 use Rattle.list.specs.declared.Stepped.{Stepped}
 use Rattle.list.specs.Tables.{all}
 use Rattle.list.specs.Lists.{maxSteps, channels, packed}
-use Rattle.list.specs.Questions.{countAllowed, channelsAllowed, judgeList}
+use Rattle.numbers.specs.Numbers.{refusedDefault}
+use Rattle.list.specs.Questions.{ask, countAllowed, channelsAllowed, judgeList}
 use Rattle.list.proofs.Tables.{table-length}
 use Rattle.list.proofs.Asking.{passed}
 use Rattle.list.proofs.Acceptance.{count-inside, list-accepted, packed-accepted}
@@ -22,10 +23,18 @@ use Rattle.plan.specs.declared.Planned.{Planned}
 use Rattle.plan.specs.declared.Steps.{Steps}
 use Rattle.plan.specs.Steps as S
 use Rattle.plan.specs.Default.{stoppingSide, metaCount, defaultSteps}
-use Rattle.plan.specs.Plans.{judgeForm, hasOther, meant, meantAllowed, judgeMeant, judgePlan, outcome, ran, rewritten, judgeDefault, planned}
+use Rattle.plan.specs.Plans.{judgeForm, hasOther, meant, meantAllowed, judgeMeant, judgePlan, judgeSteps, outcome, ran, rewritten, offer, judgeDefault, planned, judgeMeaning, meantSteps}
 use Rattle.plan.proofs.Packed.{packed-count, steps-packed}
 use Rattle.plan.proofs.Runs.{none-refused, plan-accepted}
 use Rattle.plan.proofs.Counts.{counted-all}
+
+-- ---- an answer beside steps
+offer-answer : (a : ℕ) (s : Steps) → offer a s .answer ≡ a
+offer-answer a s = go (eqb a 0) refl
+  where
+    go : (b : Bool) → eqb a 0 ≡ b → cond {A = Planned} b (record { answer = 0; steps = s }) (record { answer = a; steps = S.packed [] }) .answer ≡ a
+    go true e = sym (eqb-true a 0 e)
+    go false e = refl
 
 -- ---- the default plan: a is the answer to questions 3 to 5, m the count of meta channels, s the steps
 module _ (l : ChannelList) (a : ℕ) (ea : a ≡ judgeList l) where
@@ -45,7 +54,7 @@ module _ (l : ChannelList) (a : ℕ) (ea : a ≡ judgeList l) where
     unfolding planned judgeDefault hasOther
     planned-some h es = rw (← ea, eq-eqb a 0 ok, long, ← em, lt-ltb m (l .count) h, es)
 
--- ---- a plan: a is the answer to questions 3 to 5
+-- ---- no steps and some
 pub no-steps : (ss : List Step) → length ss ≡ 0 → ss ≡ []
 no-steps [] h = refl
 no-steps (x ∷ ss) h = absurd (omega arith)
@@ -59,58 +68,95 @@ pub steps-length : (s : Steps) → length (S.steps s) ≡ min (s .count) maxStep
 unfolding S.steps
 steps-length s = table-length (S.stepAt s) 0 _
 
-module _ (l : ChannelList) (s : Steps) (a : ℕ) (ea : a ≡ judgeForm l s) where
-  pub rewritten-refused : (a ≡ 0 → ⊥) → record { answer = a; list = l } ≡ rewritten l s
-  unfolding rewritten outcome judgePlan
-  rewritten-refused h = rw (← ea, ne-eqb a 0 h, ne-eqb a 0 h)
+-- ---- a list and a plan
+module _ (l : ChannelList) (s : Steps) where
+  pub form-accepted : judgeForm l s ≡ 0 → (judgeList l ≡ 0) × (s .count ≤ maxSteps)
+  unfolding judgeList judgeForm
+  form-accepted ok =
+      let p₃ = passed (countAllowed (l .count) && leb (s .count) maxSteps) _ _ ok in
+      let p₄ = passed (channelsAllowed (channels l) && all S.flagsAllowed (S.allFlags s)) _ _ (p₃ .1) in
+      let b₃ = and-eq-true-iff (countAllowed (l .count)) (leb (s .count) maxSteps) .0 (p₃ .0) in
+      let b₄ = and-eq-true-iff (channelsAllowed (channels l)) (all S.flagsAllowed (S.allFlags s)) .0 (p₄ .0) in
+      (rw (b₃ .0, b₄ .0) (p₄ .1), leb-true (s .count) maxSteps (b₃ .1))
 
-  module _ (ok : a ≡ 0) where
-    pub form-accepted : (judgeList l ≡ 0) × (s .count ≤ maxSteps)
-    unfolding judgeList judgeForm
-    form-accepted =
-        let p₃ = passed (countAllowed (l .count) && leb (s .count) maxSteps) _ _ (sym ea ∙ ok) in
-        let p₄ = passed (channelsAllowed (channels l) && all S.flagsAllowed (S.allFlags s)) _ _ (p₃ .1) in
-        let b₃ = and-eq-true-iff (countAllowed (l .count)) (leb (s .count) maxSteps) .0 (p₃ .0) in
-        let b₄ = and-eq-true-iff (channelsAllowed (channels l)) (all S.flagsAllowed (S.allFlags s)) .0 (p₄ .0) in
-        (rw (b₃ .0, b₄ .0) (p₄ .1), leb-true (s .count) maxSteps (b₃ .1))
+  -- the steps that arrays hold, by their count
+  none : s .count ≡ 0 → S.steps s ≡ []
+  none z = no-steps (S.steps s) (omega (arith, steps-length s))
 
-    pub rewritten-run : (r : Stepped) → (s .count ≡ 0 → ⊥) → r ≡ ran (S.steps s) l → r ≡ rewritten l s
-    unfolding rewritten ran judgePlan judgeMeant
-    rewritten-run r h e =
-        let m = steps-meant (S.steps s) (channels l) (λ z. h (omega (arith, steps-length s, form-accepted .1))) in
-        e ∙ rw (← ea, eq-eqb a 0 ok, m .0, m .1)
+  some : judgeForm l s ≡ 0 → (s .count ≡ 0 → ⊥) → (meantAllowed (S.steps s) (channels l) ≡ true) × (meant (S.steps s) (channels l) ≡ S.steps s)
+  some ok h = steps-meant (S.steps s) (channels l) (λ z. h (omega (arith, steps-length s, form-accepted ok .1)))
 
-    -- no steps, and p is the default plan
-    module _ (none : s .count ≡ 0) (p : Planned) (ep : p ≡ planned l) where
-      empty : S.steps s ≡ []
-      empty = no-steps (S.steps s) (omega (arith, steps-length s))
+  -- ---- the steps that are meant, from the answer a to questions 3 to 5
+  module _ (a : ℕ) (ea : a ≡ judgeForm l s) where
+    pub meant-refused : (e : Steps) → (a ≡ 0 → ⊥) → e ≡ S.packed [] → record { answer = a; steps = e } ≡ meantSteps l s
+    unfolding meantSteps judgeMeaning
+    meant-refused e h ee = rw (← ea, ne-eqb a 0 h, ne-eqb a 0 h, ee)
 
-      -- the default plan by the answer to question 6
-      pub offered : (b : Bool) → hasOther (channels l) ≡ b
-          → p ≡ cond b (record { answer = 0; steps = S.packed (defaultSteps stoppingSide (channels l)) }) (record { answer = 11; steps = S.packed [] })
-      unfolding planned judgeDefault
-      offered true e = ep ∙ rw (form-accepted .0, e)
-      offered false e = ep ∙ rw (form-accepted .0, e)
+    module _ (ok : a ≡ 0) where
+      pub meant-given : (s .count ≡ 0 → ⊥) → record { answer = 0; steps = s } ≡ meantSteps l s
+      unfolding meantSteps judgeMeaning
+      meant-given h = rw (← ea, eq-eqb a 0 ok, some (sym ea ∙ ok) h .0, ne-eqb (s .count) 0 h)
 
-      pub rewritten-none : (p .answer ≡ 0 → ⊥) → record { answer = p .answer; list = l } ≡ rewritten l s
-      unfolding rewritten outcome judgePlan judgeMeant meantAllowed
-      rewritten-none h = go (hasOther (channels l)) refl
-        where
-          go : (b : Bool) → hasOther (channels l) ≡ b → record { answer = p .answer; list = l } ≡ rewritten l s
-          go true e = absurd (h (ap (λ (x : Planned). x .answer) (offered true e)))
-          go false e = rw (← ea, eq-eqb a 0 ok, empty, e, ap (λ (x : Planned). x .answer) (offered false e))
+      pub meant-default : (p : Planned) → s .count ≡ 0 → p ≡ planned l → p ≡ meantSteps l s
+      unfolding planned judgeDefault meantSteps judgeMeaning meantAllowed
+      meant-default p z ep = ep ∙ rw (form-accepted (sym ea ∙ ok) .0, ← ea, eq-eqb a 0 ok, none z, eq-eqb (s .count) 0 z)
 
-      pub rewritten-default : (r : Stepped) → p .answer ≡ 0 → p .steps .count ≤ maxSteps → r ≡ ran (S.steps (p .steps)) l → r ≡ rewritten l s
-      unfolding rewritten ran judgePlan judgeMeant meantAllowed meant
-      rewritten-default r h room er = go (hasOther (channels l)) refl
-        where
-          go : (b : Bool) → hasOther (channels l) ≡ b → r ≡ rewritten l s
-          go true e =
-              let packs = ap (λ (x : Planned). x .steps) (offered true e) in
-              let long : length (defaultSteps stoppingSide (channels l)) ≤ maxSteps = omega (arith, packed-count (p .steps) _ packs) in
-              let same = ap S.steps packs ∙ steps-packed (defaultSteps stoppingSide (channels l)) long in
-              er ∙ rw (← ea, eq-eqb a 0 ok, empty, e, same)
-          go false e = absurd (eqb-false 11 0 refl (sym (ap (λ (x : Planned). x .answer) (offered false e)) ∙ h))
+  -- ---- and the list that they leave
+  -- questions 3 to 11 are 3 to 6, then 7 to 11 of the steps that are meant
+  pub plan-meaning : judgePlan l s ≡ ask (eqb (judgeMeaning l s) 0) (judgeMeaning l s) (judgeSteps (meant (S.steps s) (channels l)) (channels l))
+  unfolding judgePlan judgeMeaning judgeMeant
+  plan-meaning = go (eqb (judgeForm l s) 0) (meantAllowed (S.steps s) (channels l)) refl
+    where
+      after : ℕ
+      after = judgeSteps (meant (S.steps s) (channels l)) (channels l)
+
+      go : (f m : Bool) → eqb (judgeForm l s) 0 ≡ f
+          → ask f (judgeForm l s) (ask m refusedDefault after)
+          ≡ ask (eqb (ask f (judgeForm l s) (ask m refusedDefault 0)) 0) (ask f (judgeForm l s) (ask m refusedDefault 0)) after
+      go true true e = refl
+      go true false e = refl
+      go false m e = rw e
+
+  pub meaning-accepted : judgeMeaning l s ≡ 0 → (judgeForm l s ≡ 0) × (meantAllowed (S.steps s) (channels l) ≡ true)
+  unfolding judgeMeaning
+  meaning-accepted ok =
+      let n = none-refused (judgeForm l s) _ ok in
+      (n .0, passed (meantAllowed (S.steps s) (channels l)) _ _ (n .1) .0)
+
+  -- p is what `meant_steps` gave
+  module _ (p : Planned) (ep : p ≡ meantSteps l s) where
+    pub meaning-answer : p .answer ≡ judgeMeaning l s
+    unfolding meantSteps
+    meaning-answer = ap (λ (x : Planned). x .answer) ep ∙ offer-answer (judgeMeaning l s) _
+
+    pub meaning-steps : judgeMeaning l s ≡ 0 → p .steps .count ≤ maxSteps → S.steps (p .steps) ≡ meant (S.steps s) (channels l)
+    unfolding meantSteps meant
+    meaning-steps ok room = by (s .count) refl
+      where
+        given : p .steps ≡ cond (eqb (s .count) 0) (S.packed (defaultSteps stoppingSide (channels l))) s
+        given = ap (λ (x : Planned). x .steps) ep ∙ rw ok
+
+        by : (n : ℕ) → s .count ≡ n → S.steps (p .steps) ≡ meant (S.steps s) (channels l)
+        by zero z =
+            let packs : p .steps ≡ S.packed (defaultSteps stoppingSide (channels l)) = given ∙ rw z in
+            let n = packed-count (p .steps) (defaultSteps stoppingSide (channels l)) packs in
+            ap S.steps packs ∙ steps-packed (defaultSteps stoppingSide (channels l)) (omega arith) ∙ sym (rw (none z))
+        by (suc n) z =
+            let h : s .count ≡ 0 → ⊥ = λ e. absurd (omega arith) in
+            ap S.steps (given ∙ rw (ne-eqb (s .count) 0 h)) ∙ sym (some (meaning-accepted ok .0) h .1)
+
+    pub rewritten-refused : (p .answer ≡ 0 → ⊥) → record { answer = p .answer; list = l } ≡ rewritten l s
+    unfolding rewritten outcome
+    rewritten-refused h =
+        let e = meaning-answer in
+        let n = ne-eqb (p .answer) 0 h in
+        rw (plan-meaning, ← e, n, n)
+
+    pub rewritten-run : (r : Stepped) → p .answer ≡ 0 → p .steps .count ≤ maxSteps → r ≡ ran (S.steps (p .steps)) l → r ≡ rewritten l s
+    unfolding rewritten ran
+    rewritten-run r h room er =
+        let ok = sym meaning-answer ∙ h in
+        er ∙ rw (plan-meaning, ok, meaning-steps ok room)
 
 -- ---- an accepted plan leaves an accepted list
 pub outcome-answer : (a : ℕ) (l : ChannelList) (cs : List Channel) → outcome a l cs .answer ≡ a
@@ -128,9 +174,9 @@ outcome-list a l cs e = rw (eq-eqb a 0 e)
 pub rewritten-accepted : (l : ChannelList) (s : Steps) → rewritten l s .answer ≡ 0 → judgeList (rewritten l s .list) ≡ 0
 unfolding rewritten judgePlan judgeMeant
 rewritten-accepted l s h =
-    let zero : judgePlan l s ≡ 0 = sym (outcome-answer (judgePlan l s) l _) ∙ h in
-    let p = none-refused (judgeForm l s) (judgeMeant (S.steps s) (channels l)) zero in
+    let none : judgePlan l s ≡ 0 = sym (outcome-answer (judgePlan l s) l _) ∙ h in
+    let p = none-refused (judgeForm l s) (judgeMeant (S.steps s) (channels l)) none in
     let m = passed (meantAllowed (S.steps s) (channels l)) _ _ (p .1) in
-    let ok = list-accepted l (form-accepted l s (judgeForm l s) refl (p .0) .0) in
-    ap judgeList (outcome-list (judgePlan l s) l _ zero)
+    let ok = list-accepted l (form-accepted l s (p .0) .0) in
+    ap judgeList (outcome-list (judgePlan l s) l _ none)
     ∙ packed-accepted _ (plan-accepted (meant (S.steps s) (channels l)) (channels l) ok (m .1))

@@ -3,7 +3,7 @@ pub mod Length
 pub mod Appended
 pub mod Packed
 pub mod Counts
-pub mod Leading
+pub mod Passed
 pub mod Parts
 pub mod Flags
 pub mod Form
@@ -12,3 +12,4 @@ pub mod Reached
 pub mod Answers
 pub mod Judged
 pub mod AsStandard
+pub mod DefaultStandard

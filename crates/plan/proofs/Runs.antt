@@ -3,14 +3,13 @@
 use mathlib.Core.Bool.{Bool, true, false}
 use mathlib.Core.Path.{_≡_, refl, _∙_}
 use mathlib.Core.List.{List, [], _∷_, _++_}
-use Prim.Native.Nat.{ℕ}
 use lib.Dec.{eqb}
-use borrow.Author.Tests.{eqb-true, eqb-false}
 use Rattle.channel.specs.declared.Channel.{Channel}
 use Rattle.list.specs.declared.Step.{Step}
 use Rattle.list.specs.Lists.{stepped, total}
 use Rattle.list.specs.Questions.{ask, judgeStep}
 use Rattle.list.specs.Accepted.{Accepted}
+pub use Rattle.list.proofs.Asking.{none-refused}
 use Rattle.list.proofs.Acceptance.{step-accepted}
 use Rattle.list.proofs.Totals.{stepped-total}
 use Rattle.list.proofs.Kept.{stepped-allowed}
@@ -39,13 +38,6 @@ steps-total [] cs = refl
 steps-total (s ∷ ss) cs = steps-total ss (stepped s cs) ∙ stepped-total s cs
 
 -- ---- an accepted plan
-pub none-refused : (a b : ℕ) → ask (eqb a 0) a b ≡ 0 → (a ≡ 0) × (b ≡ 0)
-none-refused a b h = go (eqb a 0) refl h
-  where
-    go : (t : Bool) → eqb a 0 ≡ t → ask t a b ≡ 0 → (a ≡ 0) × (b ≡ 0)
-    go true e h = (eqb-true a 0 e, h)
-    go false e h = absurd (eqb-false a 0 e h)
-
 pub plan-accepted : (ss : List Step) (cs : List Channel) → Accepted cs → judgeSteps ss cs ≡ 0 → Accepted (steppedAll ss cs)
 plan-accepted [] cs ok h = ok
 plan-accepted (s ∷ ss) cs ok h =

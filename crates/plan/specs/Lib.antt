@@ -2,4 +2,6 @@ pub mod Steps
 pub mod Default
 pub mod Plans
 pub mod Adding
+pub mod Counted
 pub mod Standard
+pub mod StandardDefault

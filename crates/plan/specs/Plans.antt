@@ -67,16 +67,22 @@ ran ss l = outcome (judgeSteps ss (channels l)) l (steppedAll ss (channels l))
 unfoldable pub rewritten : ChannelList → Steps → Stepped
 rewritten l s = outcome (judgePlan l s) l (steppedAll (meant (steps s) (channels l)) (channels l))
 
--- the default plan of a list that questions 3 to 6 accept, or the refusal's number without a step
+-- ---- the steps that are meant
+-- the answer 0 with steps, or a refusal's number without a step
+abbrev pub offer : ℕ → Steps → Planned
+offer answer s = cond (eqb answer 0) (record { answer = 0; steps = s }) (record { answer = answer; steps = S.packed [] })
+
+-- the default plan of a list, by questions 3 to 6
 unfoldable pub judgeDefault : ChannelList → ℕ
 judgeDefault l = ask (eqb (judgeList l) 0) (judgeList l) (ask (hasOther (channels l)) refusedDefault 0)
 
 unfoldable pub planned : ChannelList → Planned
-planned l =
-    cond (eqb (judgeDefault l) 0)
-    (record { answer = 0; steps = S.packed (defaultSteps stoppingSide (channels l)) })
-    (record { answer = judgeDefault l; steps = S.packed [] })
+planned l = offer (judgeDefault l) (S.packed (defaultSteps stoppingSide (channels l)))
 
--- the steps of a plan as they came, or the default plan's where there are none
-unfoldable pub meantSteps : ChannelList → Steps → Steps
-meantSteps l s = cond (eqb (s .count) 0) (planned l .steps) s
+-- the steps of a plan as they came, or the default plan's where there are none: by questions 3 to 5 of the list and the plan, then 6 where there are
+-- no steps
+unfoldable pub judgeMeaning : ChannelList → Steps → ℕ
+judgeMeaning l s = ask (eqb (judgeForm l s) 0) (judgeForm l s) (ask (meantAllowed (steps s) (channels l)) refusedDefault 0)
+
+unfoldable pub meantSteps : ChannelList → Steps → Planned
+meantSteps l s = offer (judgeMeaning l s) (cond (eqb (s .count) 0) (S.packed (defaultSteps stoppingSide (channels l))) s)

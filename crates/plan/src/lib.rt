@@ -6,16 +6,18 @@ ghost use mathlib.Core.List.{[]};
 ghost use Prim.Native.Nat.{_+_, _<_, _≤_};
 ghost use lib.ListN.{length};
 ghost use Rattle.list.specs.Tables.{all};
-ghost use Rattle.list.specs.Lists.{maxChannels, maxSteps, channels, packed, halved};
+ghost use Rattle.list.specs.Lists.{maxChannels, maxSteps, channels, packed};
 ghost use Rattle.list.specs.Questions.{judgeList};
 ghost use Rattle.plan.specs.Steps as Spec;
 ghost use Rattle.plan.specs.Adding.{pushed, appended};
 ghost use Rattle.plan.specs.Default as Default;
+ghost use Rattle.plan.specs.Counted.{isCounted};
 ghost use Rattle.plan.specs.Plans as Plans;
 use channel::Channel;
 use list::ChannelList;
 use list::Step;
 use list::Stepped;
+use list::halved;
 use numbers::REFUSED_COUNT;
 use numbers::REFUSED_DEFAULT;
 use numbers::REFUSED_FORM;
@@ -31,6 +33,12 @@ pub struct Steps {
 pub struct Planned {
     pub answer: u32,
     pub steps: Steps,
+}
+
+// The channels that are counted from the front of a list.
+enum Counted {
+    Meta,
+    Coarse,
 }
 
 // "flags 1 (bit 0 horizontal, bit 1 in place)".
@@ -102,12 +110,6 @@ impl Steps {
     {
         if test { self.push(step) } else { self }
     }
-}
-
-fn halved(side: u16) -> u16
-    ensures { λ r. ⌜ r ≡ halved side ⌝ }
-{
-    side - side / 2
 }
 
 fn lowered(side: u16) -> u16
@@ -193,18 +195,47 @@ fn chroma(plan: Steps, m: u16, n: u16, w: u16, h: u16, second: Channel) -> Steps
         .push_if(alike & (1 < h), vertical)
 }
 
-// m, the leading meta channels.
-fn meta_count(list: ChannelList) -> usize
-    ensures { λ r. ⌜ r ≡ Default.metaCount (channels list) ⌝ }
+fn is_coarse(channel: Channel) -> bool
+    ensures { λ r. ⌜ r ≡ Default.isCoarse Default.stoppingSide channel ⌝ }
+{
+    (channel.width <= Steps::STOPPING_SIDE) & (channel.height <= Steps::STOPPING_SIDE)
+}
+
+fn is_counted(channel: Channel, which: Counted) -> bool
+    ensures { λ r. ⌜ r ≡ isCounted which channel ⌝ }
+{
+    match which {
+        Counted::Meta => channel.is_meta(),
+        Counted::Coarse => is_coarse(channel),
+    }
+}
+
+// How many channels stand before the first that is not counted.
+fn leading(list: ChannelList, which: Counted) -> usize
+    ensures { λ r. ⌜ r ≡ Default.leading (isCounted which) (channels list) ⌝ }
 {
     let count = list.count;
     for k in 0..ChannelList::MAX_CHANNELS {
         let c = list.channel(k);
-        if (count <= k) | !c.is_meta() {
+        if (count <= k) | !is_counted(c, which) {
             return k;
         }
     }
     ChannelList::MAX_CHANNELS
+}
+
+// m, the leading meta channels.
+fn meta_count(list: ChannelList) -> usize
+    ensures { λ r. ⌜ r ≡ Default.metaCount (channels list) ⌝ }
+{
+    leading(list, Counted::Meta)
+}
+
+// The coarse count of a rewritten list.
+pub fn coarse_count(list: ChannelList) -> usize
+    ensures { λ r. ⌜ r ≡ Default.coarseCount Default.stoppingSide (channels list) ⌝ }
+{
+    leading(list, Counted::Coarse)
 }
 
 // The default plan of a list with a channel that is not meta.
@@ -248,37 +279,6 @@ pub fn default_squeeze(list: ChannelList) -> Planned
     }
 }
 
-// The steps that are meant: "An empty list of steps means the default plan."
-pub fn meant_steps(list: ChannelList, steps: Steps) -> Steps
-    ensures { λ r. ⌜ r ≡ Plans.meantSteps list steps ⌝ }
-    ensures room { λ r. ⌜ (steps .count ≤ maxSteps → r .count ≤ maxSteps) ⌝ }
-{
-    if steps.count != 0 {
-        return steps;
-    }
-    default_squeeze(list).steps
-}
-
-fn is_coarse(channel: Channel) -> bool
-    ensures { λ r. ⌜ r ≡ Default.isCoarse Default.stoppingSide channel ⌝ }
-{
-    (channel.width <= Steps::STOPPING_SIDE) & (channel.height <= Steps::STOPPING_SIDE)
-}
-
-// The coarse count of a rewritten list.
-pub fn coarse_count(list: ChannelList) -> usize
-    ensures { λ r. ⌜ r ≡ Default.coarseCount Default.stoppingSide (channels list) ⌝ }
-{
-    let count = list.count;
-    for k in 0..ChannelList::MAX_CHANNELS {
-        let c = list.channel(k);
-        if (count <= k) | !is_coarse(c) {
-            return k;
-        }
-    }
-    ChannelList::MAX_CHANNELS
-}
-
 // Question 4, of the steps' flags.
 fn flags_allowed(steps: Steps) -> bool
     requires { ⌜ steps .count ≤ maxSteps ⌝ }
@@ -305,6 +305,25 @@ fn judge_form(list: ChannelList, steps: Steps) -> u32
         return REFUSED_FORM;
     }
     answer
+}
+
+// The steps that a list and a plan mean by questions 3 to 6: "An empty list of
+// steps means the default plan."
+pub fn meant_steps(list: ChannelList, steps: Steps) -> Planned
+    ensures { λ r. ⌜ r ≡ Plans.meantSteps list steps ⌝ }
+    ensures room { λ r. ⌜ r .steps .count ≤ maxSteps ⌝ }
+{
+    let answer = judge_form(list, steps);
+    if answer != 0 {
+        return Planned {
+            answer,
+            steps: Steps::empty(),
+        };
+    }
+    if steps.count != 0 {
+        return Planned { answer: 0, steps };
+    }
+    default_squeeze(list)
 }
 
 // The list with its unused entries 0.
@@ -360,17 +379,10 @@ fn run(list: ChannelList, steps: Steps) -> Stepped
 pub fn rewrite(list: ChannelList, steps: Steps) -> Stepped
     ensures { λ r. ⌜ r ≡ Plans.rewritten list steps ⌝ }
 {
-    let answer = judge_form(list, steps);
+    let meant = meant_steps(list, steps);
+    let answer = meant.answer;
     if answer != 0 {
         return Stepped { answer, list };
     }
-    if steps.count != 0 {
-        return run(list, steps);
-    }
-    let planned = default_squeeze(list);
-    let answer = planned.answer;
-    if answer != 0 {
-        return Stepped { answer, list };
-    }
-    run(list, planned.steps)
+    run(list, meant.steps)
 }

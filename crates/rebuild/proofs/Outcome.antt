@@ -11,6 +11,7 @@ use lib.IntN.{ℤ}
 use lib.ListN.{length}
 use Rattle.list.specs.declared.ChannelList.{ChannelList}
 use Rattle.list.specs.Lists.{maxSteps, channels, total}
+use Rattle.plan.specs.declared.Planned.{Planned}
 use Rattle.plan.specs.declared.Steps.{Steps}
 use Rattle.plan.specs.Steps as S
 use Rattle.plan.specs.Plans.{meant, meantSteps, judgePlan}
@@ -24,13 +25,13 @@ use Rattle.rebuild.proofs.Standing.{all-stands}
 
 -- ---- the steps that are meant, in an accepted plan
 module _ (l : ChannelList) (s : Steps) (ok : judgePlan l s ≡ 0) where
-  module _ (r : Steps) (er : r ≡ meantSteps l s) (room : r .count ≤ maxSteps) where
-    pub all-steps : stepsFrom r 0 ≡ meant (S.steps s) (channels l)
+  module _ (r : Planned) (er : r ≡ meantSteps l s) (room : r .steps .count ≤ maxSteps) where
+    pub all-steps : stepsFrom (r .steps) 0 ≡ meant (S.steps s) (channels l)
     unfolding S.steps
-    all-steps = let e : r .count - 0 ≡ min (r .count) maxSteps = omega arith in rw e (meant-is l s ok r er room)
+    all-steps = let e : r .steps .count - 0 ≡ min (r .steps .count) maxSteps = omega arith in rw e (meant-is l s ok r er room)
 
     pub run-fits : (pyramid picture work : List ℤ)
-        → (length pyramid ≡ total (channels l)) × (length picture ≡ total (channels l)) × (length work ≡ total (channels l)) → RunFits l r 0 pyramid picture work
+        → (length pyramid ≡ total (channels l)) × (length picture ≡ total (channels l)) × (length work ≡ total (channels l)) → RunFits l (r .steps) 0 pyramid picture work
     run-fits pyramid picture work n =
         record {
           accepted = judged-list l s ok;
@@ -82,9 +83,9 @@ module _ (l : ChannelList) (s : Steps) (pyramid picture work : List ℤ) where
             (record { long = omega arith; reached = h }, omega arith)
 
         -- the run has left samples of which all come to the picture
-        pub ends-done : (r : Steps) → r ≡ meantSteps l s → r .count ≤ maxSteps
+        pub ends-done : (r : Planned) → r ≡ meantSteps l s → r .steps .count ≤ maxSteps
             → (touched : ℕ) (run used cleared : List ℤ) (n : ℕ) (last : List ℤ)
-            → (touched ≤ length pyramid) × (standing touched run pyramid ≡ rebuilt (stepsFrom r 0) (channels l) pyramid)
+            → (touched ≤ length pyramid) × (standing touched run pyramid ≡ rebuilt (stepsFrom (r .steps) 0) (channels l) pyramid)
             → length used ≡ length work → cleared ≡ zeros used
             → (n ≡ max touched all) × (standing n last pyramid ≡ standing touched run pyramid) → length last ≡ length picture → Ends 0 last cleared
         unfolding answerOf pictureAfter workAfter

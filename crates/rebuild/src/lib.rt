@@ -305,7 +305,7 @@ pub fn rebuild(
     if !((pyramid.len() == total) & ((picture.len() == total) & (work.len() == total))) {
         return REFUSED_LENGTH;
     }
-    let meant = plan::meant_steps(list, steps);
+    let meant = plan::meant_steps(list, steps).steps;
     let touched = rebuild_from(list, meant, 0, pyramid, picture, work);
     settle(pyramid, touched, total, picture);
     buffer::clear(work);

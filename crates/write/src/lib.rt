@@ -183,7 +183,7 @@ pub fn write(
         return REFUSED_LENGTH;
     }
     buffer::copy(picture, pyramid);
-    run(list, plan::meant_steps(list, steps), pyramid, work);
+    run(list, plan::meant_steps(list, steps).steps, pyramid, work);
     buffer::clear(work);
     0
 }

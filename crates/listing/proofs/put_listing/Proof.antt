@@ -1,7 +1,7 @@
 -- `put_listing` meets its contract: the refusal, or the lines of the plan (proofs/Outcomes.antt). Assumes nothing.
 use native.Mathlib.Omega.{arith}
 use borrow.Author.Needs.{needs}
-use Rattle.plan.proofs.Judged.{judged-counts, meant-is}
+use Rattle.plan.proofs.Judged.{meant-is}
 use Rattle.record.proofs.Readings.{read-judged}
 use Rattle.listing.proofs.Outcomes.{listing-refused, reached-few, listing-accepted}
 use Rattle.listing.proofs.put_listing.Statement.{statement}
@@ -36,12 +36,11 @@ meant-steps-requires c κs = search needs
 
 put-plan-requires : tie.Need-put-plan-requires
 put-plan-requires c κs =
-    let m = c .before in
+    let m = c .before .before in
     let w = m .before .before in
     let e = w .before in
     let f = e .before .before .read-record in
-    let few = judged-counts _ _ (read-judged _ (f .result) (f .ensures) (e .if1 .left)) .1 in
-    (m .meant-steps .ensures .1 few, reached-few _ _ (f .ensures) (e .if1 .left) _ (w .rewrite .ensures), omega arith)
+    (m .meant-steps .ensures .1, reached-few _ _ (f .ensures) (e .if1 .left) _ (w .rewrite .ensures), omega arith)
 
 same-length-2 : tie.Need-same-length-2
 same-length-2 c = search needs
@@ -49,13 +48,13 @@ same-length-2 c = search needs
 returns-2 : tie.Need-returns-2
 returns-2 c =
     let p = c .before .before in
-    let m = p .before .before in
+    let m = p .before .before .before in
     let w = m .before .before in
     let e = w .before in
     let f = e .before .before .read-record in
     let ok = read-judged _ (f .result) (f .ensures) (e .if1 .left) in
     let s = m .meant-steps in
-    let steps = meant-is (f .result .list) (f .result .steps) ok (s .result) (s .ensures .0) (s .ensures .1 (judged-counts _ _ ok .1)) in
+    let steps = meant-is (f .result .list) (f .result .steps) ok (s .result) (s .ensures .0) (s .ensures .1) in
     let text = listing-accepted _ _ (f .ensures) (e .if1 .left) _ (w .rewrite .ensures) _ steps in
     rw (← text) (p .put-plan .ensures)
 

@@ -1,24 +1,45 @@
--- `meant_steps` meets its contract: the steps as they came, or the default plan's. Assumes nothing.
-use mathlib.Core.Path.{ap, sym}
+-- `meant_steps` meets its contract: each return has the answers to the questions before it (proofs/Answers.antt). Assumes nothing.
+use mathlib.Core.Path.{sym, _∙_}
+use mathlib.Core.List.{[]}
+use native.Mathlib.Omega.{arith}
 use borrow.Author.Needs.{needs}
-use borrow.Author.Tests.{ne-eqb}
-use Rattle.plan.specs.declared.Planned.{Planned}
-use Rattle.plan.specs.Plans.{meantSteps}
+use Rattle.plan.proofs.Packed.{packed-count}
+use Rattle.plan.proofs.Answers.{form-accepted, meant-refused, meant-given, meant-default}
 use Rattle.plan.proofs.meant_steps.Statement.{statement}
 use Rattle.plan.proofs.meant_steps.Tie as tie
 
+judge-form-requires : tie.Need-judge-form-requires
+judge-form-requires c κs = search needs
+
+empty-requires : tie.Need-empty-requires
+empty-requires c κs = search needs
+
 returns : tie.Need-returns
-unfolding meantSteps
-returns c = (rw (ne-eqb (c .before .before .args .steps .count) 0 (c .if1 .taken)), λ few. few)
+returns c =
+    (meant-refused _ _ _ (c .before .before .judge-form .ensures) _ (c .before .if1 .taken) (c .empty .ensures), omega (arith, packed-count _ [] (c .empty .ensures)))
+
+returns-2 : tie.Need-returns-2
+returns-2 c =
+    let q = c .before .before in
+    let e = q .before .judge-form .ensures in
+    (meant-given _ _ _ e (q .if1 .left) (c .if2 .taken), form-accepted _ _ (sym e ∙ q .if1 .left) .1)
 
 default-squeeze-requires : tie.Need-default-squeeze-requires
 default-squeeze-requires c κs = search needs
 
-returns-2 : tie.Need-returns-2
-unfolding meantSteps
-returns-2 c =
-    let d = c .before .default-squeeze in
-    (rw (c .before .before .if1 .left) (ap (λ (x : Planned). x .steps) (d .ensures .0)), λ few. d .ensures .1)
+returns-3 : tie.Need-returns-3
+returns-3 c =
+    let q = c .before .before .before in
+    let d = c .default-squeeze .ensures in
+    (meant-default _ _ _ (q .before .judge-form .ensures) (q .if1 .left) _ (c .before .if2 .left) (d .0), d .1)
 
 pub meant-steps-spec : {M : Type 1} → statement M
-meant-steps-spec = tie.close (tie.spec returns default-squeeze-requires returns-2)
+meant-steps-spec =
+    tie.close
+    (tie.spec
+    judge-form-requires
+    empty-requires
+    returns
+    returns-2
+    default-squeeze-requires
+    returns-3)

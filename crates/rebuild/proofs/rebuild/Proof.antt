@@ -2,7 +2,7 @@
 use mathlib.Core.Path.{sym, _∙_}
 use borrow.Author.Needs.{needs}
 use borrow.Author.Tests.{not-true, not-false}
-use Rattle.plan.proofs.Judged.{plan-answer, judged-counts}
+use Rattle.plan.proofs.Judged.{plan-answer}
 use Rattle.rebuild.proofs.Outcome.{run-fits, ends-refused, ends-misfit, lengths, settle-fits, ends-done}
 use Rattle.rebuild.proofs.rebuild.Statement.{statement}
 use Rattle.rebuild.proofs.rebuild.Tie as tie
@@ -34,26 +34,26 @@ meant-steps-requires c κs = search needs
 
 rebuild-from-requires : tie.Need-rebuild-from-requires
 rebuild-from-requires c κs =
-    let m = c .before .before .before .before in
+    let m = c .before .before .before .before .before in
     let w = m .before .before .rewrite in
     let a = m .before .before .before .args in
     let ea = plan-answer (a .list) (a .steps) (w .result) (w .ensures) in
     let ok = m .before .if1 .left in
-    let steps = c .before .before .meant-steps in
-    run-fits (a .list) (a .steps) (sym ea ∙ ok) (steps .result) (steps .ensures .0) (steps .ensures .1 (judged-counts (a .list) (a .steps) (sym ea ∙ ok) .1)) (a .pyramid .now) (a .picture .now) (a .work .now)
+    let steps = c .before .before .before .meant-steps in
+    run-fits (a .list) (a .steps) (sym ea ∙ ok) (steps .result) (steps .ensures .0) (steps .ensures .1) (a .pyramid .now) (a .picture .now) (a .work .now)
     (lengths (a .list) (a .steps) (a .pyramid .now) (a .picture .now) (a .work .now) (w .result .answer) ea ok (m .total .result) (m .total .ensures)
-    (not-false _ (c .before .before .before .if2 .left)))
+    (not-false _ (c .before .before .before .before .if2 .left)))
 
 settle-requires : tie.Need-settle-requires
 settle-requires c κs =
-    let m = c .before .before .before .before .before .before .before .before in
+    let m = c .before .before .before .before .before .before .before .before .before in
     let w = m .before .before .rewrite in
     let a = m .before .before .before .args in
     let ea = plan-answer (a .list) (a .steps) (w .result) (w .ensures) in
     let ok = m .before .if1 .left in
     let run = c .before .before .before .rebuild-from in
     settle-fits (a .list) (a .steps) (a .pyramid .now) (a .picture .now) (a .work .now) (w .result .answer) ea ok (m .total .result) (m .total .ensures)
-    (not-false _ (c .before .before .before .before .before .before .before .if2 .left)) _ _ (run .ensures .0) (run .kept .1 .1 .1 .1 .0)
+    (not-false _ (c .before .before .before .before .before .before .before .before .if2 .left)) _ _ (run .ensures .0) (run .kept .1 .1 .1 .1 .0)
 
 clear-requires : tie.Need-clear-requires
 clear-requires c κs = search needs
@@ -66,17 +66,17 @@ same-length-2 c = search needs
 
 returns-3 : tie.Need-returns-3
 returns-3 c =
-    let m = c .before .before .before .before .before .before .before .before .before .before .before .before .before in
+    let m = c .before .before .before .before .before .before .before .before .before .before .before .before .before .before in
     let w = m .before .before .rewrite in
     let a = m .before .before .before .args in
     let ea = plan-answer (a .list) (a .steps) (w .result) (w .ensures) in
     let ok = m .before .if1 .left in
-    let steps = c .before .before .before .before .before .before .before .before .before .before .before .meant-steps in
+    let steps = c .before .before .before .before .before .before .before .before .before .before .before .before .meant-steps in
     let run = c .before .before .before .before .before .before .before .before .rebuild-from in
     let settle = c .before .before .before .before .settle in
     let clear = c .before .clear in
     ends-done (a .list) (a .steps) (a .pyramid .now) (a .picture .now) (a .work .now) (w .result .answer) ea ok (m .total .result) (m .total .ensures)
-    (not-false _ (c .before .before .before .before .before .before .before .before .before .before .before .before .if2 .left)) (steps .result) (steps .ensures .0) (steps .ensures .1 (judged-counts (a .list) (a .steps) (sym ea ∙ ok) .1)) _ _ _ _ _ _ (run .ensures) (run .kept .1 .1 .1 .1 .1 .0) (clear .ensures) (settle .ensures)
+    (not-false _ (c .before .before .before .before .before .before .before .before .before .before .before .before .before .if2 .left)) (steps .result) (steps .ensures .0) (steps .ensures .1) _ _ _ _ _ _ (run .ensures) (run .kept .1 .1 .1 .1 .1 .0) (clear .ensures) (settle .ensures)
     (settle .kept .1 .1 .1 .0 ∙ run .kept .1 .1 .1 .1 .0)
 
 pub rebuild-spec : {M : Type 1} → statement M

@@ -8,7 +8,7 @@ use Rattle.list.specs.Lists.{maxSteps, channels, total}
 use Rattle.list.proofs.Asking.{no, yes}
 use Rattle.plan.specs.Steps.{steps}
 use Rattle.plan.specs.Plans.{judgePlan, meant}
-use Rattle.plan.proofs.Judged.{plan-answer, judged-list, judged-counts, meant-judged, meant-is}
+use Rattle.plan.proofs.Judged.{plan-answer, judged-list, meant-judged, meant-is}
 use Rattle.buffer.proofs.Overwritten.{zeros-same, copied-all}
 use Rattle.write.specs.Write.{slicesFit}
 use Rattle.write.proofs.Answered.{fit-tested, fit-lengths, plan-refused, slices-refused, accepted}
@@ -43,10 +43,10 @@ module _ (c : tie.After-run-arg2) where
   copied : c .before .before .before .before .copy .last .1 .0 ≡ start .args .picture .now
   copied = c .before .before .before .before .copy .ensures ∙ copied-all (start .args .picture .now) (start .args .pyramid .now) (lengths .0 ∙ sym (lengths .1))
 
-  few : c .before .before .meant-steps .result .count ≤ maxSteps
-  few = c .before .before .meant-steps .ensures .1 (judged-counts (start .args .list) (start .args .steps) (plan passed) .1)
+  few : c .before .before .meant-steps .result .steps .count ≤ maxSteps
+  few = c .before .before .meant-steps .ensures .1
 
-  taken : steps (c .before .before .meant-steps .result) ≡ meant (steps (start .args .steps)) (channels (start .args .list))
+  taken : steps (c .before .before .meant-steps .result .steps) ≡ meant (steps (start .args .steps)) (channels (start .args .list))
   taken = meant-is (start .args .list) (start .args .steps) (plan passed) _ (c .before .before .meant-steps .ensures .0) few
 
 rewrite-requires : tie.Need-rewrite-requires
