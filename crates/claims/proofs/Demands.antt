@@ -24,6 +24,7 @@ use Rattle.list.proofs.Totals.{stepped-total}
 use Rattle.line.specs.Forward.{Samples}
 use Rattle.tile.specs.Call as Tile
 use Rattle.tile.specs.Call.{Call}
+use Rattle.tile.proofs.Fitted.{refused-after}
 use Rattle.tile.proofs.AsStandard.{tile-is-standard}
 use Rattle.cuts.proofs.Together.{tiles-together}
 use Rattle.cuts.proofs.Witness.{witness}
@@ -33,8 +34,9 @@ use Rattle.plan.specs.Plans as Plans
 use Rattle.plan.specs.Plans.{judgePlan, judgeSteps, steppedAll, meant, rewritten}
 use Rattle.plan.proofs.Runs.{none-refused}
 use Rattle.plan.proofs.Answers.{rewritten-accepted}
-use Rattle.plan.proofs.Judged.{plan-answer, meant-judged}
+use Rattle.plan.proofs.Judged.{plan-answer, meant-judged, reached-back}
 use Rattle.plan.proofs.AsStandard.{list-standard}
+use Rattle.plan.proofs.DefaultStandard.{default-standard, standard-default, standard-sides, dots-standard, dots-ours}
 use Rattle.record.specs.declared.Record.{Record}
 use Rattle.record.specs.Reading as Reading
 use Rattle.record.specs.Reading.{answerOf}
@@ -53,7 +55,7 @@ use Rattle.runs.proofs.Whole.{squeezed-fills, squeezed-rebuilds, rebuilt-fills,
 use Rattle.runs.proofs.AsStandard.{run-standard}
 use Rattle.squeeze.specs.GridRect as Rect
 use Rattle.squeeze.specs.Entry.{fits, answer, pictureOf, pyramidOf, workOf}
-use Rattle.claims.specs.Demands.{field4097, RefusalKeeps, ListIsStandard, PictureIsStandard, ProgramRule, WriterGivesIt, WrittenRebuilds, RebuiltWrites, TilesTogether, Demands}
+use Rattle.claims.specs.Demands.{field4097, RefusalKeeps, ListIsStandard, DefaultIsStandard, PictureIsStandard, ProgramRule, WriterGivesIt, WrittenRebuilds, RebuiltWrites, TilesTogether, Demands}
 
 -- ---- the layout: refused steps or not, the sample total stays; accepted steps reach the list that `steppedAll` says
 layout-total : (ss : List Step) (cs : List Channel) → total (layout ss cs) ≡ total cs
@@ -109,10 +111,6 @@ run-keeps : (bytes : List ℕ) (read filled work : List ℤ) → (answer bytes r
 unfolding pictureOf pyramidOf workOf
 run-keeps bytes read filled work h = let n = ne-eqb (answer bytes read filled work) 0 h in (rw n, rw n, rw n)
 
-tile-keeps : (c : Call) → (Tile.answer c ≡ 0 → ⊥) → Tile.after c ≡ c .out
-unfolding Tile.after
-tile-keeps c h = rw (ne-eqb (Tile.answer c) 0 h)
-
 rectangle-keeps : (c : Channel) (output stored group gx gy : ℕ) (numbers : List ℕ) → (Rect.answer c output stored group gx gy numbers ≡ 0 → ⊥)
     → Rect.numbersAfter c output stored group gx gy numbers ≡ numbers
 unfolding Rect.numbersAfter
@@ -135,36 +133,34 @@ writer-keeps l s out = by (eqb (writeAnswer l s out) 0) refl
     by false e h = rw e
 
 refusal-keeps : RefusalKeeps
-refusal-keeps = record { runs = run-keeps; tile = tile-keeps; rectangle = rectangle-keeps; listing = listing-keeps; record-writer = writer-keeps }
+refusal-keeps = record { runs = run-keeps; tile = refused-after; rectangle = rectangle-keeps; listing = listing-keeps; record-writer = writer-keeps }
 
 -- ---- a plan that is accepted
 module _ (l : ChannelList) (s : Steps) (z : rewritten l s .answer ≡ 0) where
   judged : judgePlan l s ≡ 0
   judged = sym (plan-answer l s (rewritten l s) refl) ∙ z
 
-  reached-few : rewritten l s .list .count ≤ maxChannels
-  reached-few = count-inside (rewritten l s .list) (rewritten-accepted l s z) .1
-
-  reached-back : channels (rewritten l s .list) ≡ steppedAll (meant (steps s) (channels l)) (channels l)
-  unfolding Plans.rewritten Plans.outcome Lists.packed
-  reached-back =
-      let cs = steppedAll (meant (steps s) (channels l)) (channels l) in
-      let packs : rewritten l s .list ≡ Lists.packed cs = rw judged in
-      ap channels packs ∙ channels-packed cs (omega (arith, ap (λ (x : ChannelList). x .count) packs, reached-few))
+  reached : channels (rewritten l s .list) ≡ steppedAll (meant (steps s) (channels l)) (channels l)
+  reached = reached-back l s judged (rewritten l s) refl
 
   reached-total : total (channels (rewritten l s .list)) ≡ total (channels l)
   reached-total =
-      ap total (reached-back ∙ sym (layout-reached (meant (steps s) (channels l)) (channels l) (meant-judged l s judged)))
+      ap total (reached ∙ sym (layout-reached (meant (steps s) (channels l)) (channels l) (meant-judged l s judged)))
       ∙ layout-total (meant (steps s) (channels l)) (channels l)
 
 -- ---- demand 2
 list-is-standard : ListIsStandard
 list-is-standard =
     record {
-      rewrites = λ l s z. rw (reached-back l s z) (list-standard (meant (steps s) (channels l)) (channels l) (meant-judged l s (judged l s z)));
+      rewrites = λ l s z. rw (reached l s z) (list-standard (meant (steps s) (channels l)) (channels l) (meant-judged l s (judged l s z)));
       listed = λ bytes z. list-standard (stepsOf bytes) (channelsOf bytes) (steps-judged bytes z);
       laid-out = λ bytes z. layout-reached (stepsOf bytes) (channelsOf bytes) (steps-judged bytes z);
     }
+
+default-is-standard : DefaultIsStandard
+unfolding Plans.meant
+default-is-standard =
+    record { ours = default-standard; only = standard-default; nowhere-else = standard-sides; smallest = (dots-standard, dots-ours) }
 
 picture-is-standard : PictureIsStandard
 unfolding pictureOf
@@ -257,6 +253,7 @@ demands =
     record {
       refusal-keeps = refusal-keeps;
       list-is-standard = list-is-standard;
+      default-is-standard = default-is-standard;
       picture-is-standard = picture-is-standard;
       tile-is-standard = tile-is-standard;
       total-stays = record { laid-out = layout-total; rewrites = reached-total };

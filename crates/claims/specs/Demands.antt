@@ -2,7 +2,8 @@
 -- `squeeze_rebuild` and `squeeze_write`, `answer` and `after` of crate tile for `squeeze_tile`, `numbersAfter` for `squeeze_grid_rect`, `listed` and
 -- `textAfter` for `squeeze_listing`; and those of `rewrite`, `write_record` and `list_input`. Statements only; proofs/Demands.antt proves them.
 use mathlib.Core.Path.{_≡_}
-use mathlib.Core.List.{List, _∷_, _++_}
+use mathlib.Core.Bool.{true, false}
+use mathlib.Core.List.{List, [], _∷_, _++_}
 use Prim.Native.Nat.{ℕ, _≤_}
 use lib.IntN.{ℤ}
 use lib.ListN.{length, replicate}
@@ -22,7 +23,9 @@ use Rattle.cuts.specs.Witness.{Witness}
 use Rattle.plan.specs.declared.Steps.{Steps}
 use Rattle.plan.specs.Steps.{steps}
 use Rattle.plan.specs.Plans.{meant, rewritten}
+use Rattle.plan.specs.Default.{step}
 use Rattle.plan.specs.Standard.{StandardSteps}
+use Rattle.plan.specs.StandardDefault.{StandardDefault, ChromaSidesAbove1, dots}
 use Rattle.record.specs.Records.{readAnswer, channelsOf, stepsOf, reachedOf, writtenOf, writtenBytes}
 use Rattle.record.specs.Laws.{ReadWrittenLaw, WrittenReadLaw, OneRecord}
 use Rattle.listing.specs.Text.{refusedWord, numbered}
@@ -51,6 +54,14 @@ pub record ListIsStandard : Type 0 where
       → StandardSteps (meant (steps s) (channels l)) (channels l) (channels (rewritten l s .list))
   pub listed : (bytes : List ℕ) → readAnswer bytes ≡ 0 → StandardSteps (stepsOf bytes) (channelsOf bytes) (reachedOf bytes)
   pub laid-out : (bytes : List ℕ) → readAnswer bytes ≡ 0 → layout (stepsOf bytes) (channelsOf bytes) ≡ reachedOf bytes
+
+-- the default plan, where document 01 does not decide otherwise: its steps are the standard's, no others are, and nowhere else are they
+pub record DefaultIsStandard : Type 0 where
+  pub ours : (cs : List Channel) → ChromaSidesAbove1 cs → StandardDefault cs (meant [] cs)
+  pub only : (cs : List Channel) → ChromaSidesAbove1 cs → (ss : List Step) → StandardDefault cs ss → ss ≡ meant [] cs
+  pub nowhere-else : (cs : List Channel) → StandardDefault cs (meant [] cs) → ChromaSidesAbove1 cs
+  -- three channels 1 by 1: the standard has two chroma steps, document 01 none
+  pub smallest : StandardDefault dots (step true false 1 2 ∷ step false false 1 2 ∷ []) × (meant [] dots ≡ [])
 
 -- the picture, where every sample read or made in any step lies in the domain
 abbrev pub PictureIsStandard : Type 0
@@ -117,6 +128,7 @@ TilesTogether = (s : Squeeze) → Fitting s → (cut : Cut s) (es : List Event) 
 pub record Demands : Type 0 where
   pub refusal-keeps : RefusalKeeps
   pub list-is-standard : ListIsStandard
+  pub default-is-standard : DefaultIsStandard
   pub picture-is-standard : PictureIsStandard
   pub tile-is-standard : TileIsStandard
   pub total-stays : TotalStays

@@ -4,7 +4,6 @@
 // kind there were and how many came out right.
 ghost use Prim.Native.Nat.{_+_, _<_, _≤_};
 use libc::STDIN_FILENO;
-use libc::STDOUT_FILENO;
 use list::ChannelList;
 use list::Step;
 use plan::Steps;
@@ -244,24 +243,21 @@ fn tally(bytes: &[u8], source: usize, kind: usize) -> Score {
     Score { cases, right }
 }
 
-// "what", the cases and how many of them are right, on one line.
-fn say(what: &[u8], t: Score) {
-    io::write_all(STDOUT_FILENO, what);
-    io::print_decimal(STDOUT_FILENO, t.cases);
-    io::write_all(STDOUT_FILENO, b" right ");
-    io::print_decimal(STDOUT_FILENO, t.right);
-    io::write_all(STDOUT_FILENO, b"\n");
+// Says how many cases of one source and kind there are, and how many are right.
+fn say(bytes: &[u8], what: &[u8], source: usize, kind: usize) {
+    let t = tally(bytes, source, kind);
+    replay::say(what, t.cases, t.right);
 }
 
 fn report(bytes: &[u8]) {
-    say(b"Rust, steps ", tally(bytes, RUST, STEP));
-    say(b"Rust, plans ", tally(bytes, RUST, PLAN));
-    say(b"Rust, default plans ", tally(bytes, RUST, DEFAULT));
-    say(b"own, steps ", tally(bytes, OWN, STEP));
-    say(b"own, plans ", tally(bytes, OWN, PLAN));
-    say(b"own, default plans ", tally(bytes, OWN, DEFAULT));
-    say(b"own, coarse counts ", tally(bytes, OWN, COARSE));
-    say(b"own, steps meant ", tally(bytes, OWN, MEANT));
+    say(bytes, b"Rust, steps ", RUST, STEP);
+    say(bytes, b"Rust, plans ", RUST, PLAN);
+    say(bytes, b"Rust, default plans ", RUST, DEFAULT);
+    say(bytes, b"own, steps ", OWN, STEP);
+    say(bytes, b"own, plans ", OWN, PLAN);
+    say(bytes, b"own, default plans ", OWN, DEFAULT);
+    say(bytes, b"own, coarse counts ", OWN, COARSE);
+    say(bytes, b"own, steps meant ", OWN, MEANT);
 }
 
 fn main() {

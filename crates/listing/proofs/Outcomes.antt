@@ -1,41 +1,24 @@
 -- What a listing comes to (specs/Listing.antt), by the answers that the code has found on the way. Assumes nothing.
-use mathlib.Core.Path.{_≡_, refl, sym, ap, _∙_}
-use mathlib.Core.Bool.{Bool, true, false, cond}
-use mathlib.Core.List.{List, [], _∷_}
+use mathlib.Core.Path.{_≡_, _∙_}
+use mathlib.Core.List.{List}
 use Prim.Native.Nat.{ℕ, _<_, _≤_}
 use native.Mathlib.Nat.{zero-add}
 use native.Mathlib.Omega.{arith}
-use lib.Dec.{eqb}
 use lib.ListN.{length, take}
-use borrow.Author.Tests.{eqb-true, ne-eqb, le-leb, lt-leb}
+use borrow.Author.Tests.{ne-eqb, le-leb, lt-leb}
 use Rattle.numbers.specs.Numbers.{refusedLength}
-use Rattle.channel.specs.declared.Channel.{Channel}
-use Rattle.list.specs.declared.ChannelList.{ChannelList}
-use Rattle.list.specs.declared.Step.{Step}
 use Rattle.list.specs.declared.Stepped.{Stepped}
-use Rattle.list.specs.Lists as Lists
-use Rattle.list.specs.Lists.{maxChannels, maxSteps, channels}
-use Rattle.list.proofs.Acceptance.{count-inside}
-use Rattle.list.proofs.Packed.{channels-packed}
-use Rattle.plan.specs.declared.Planned.{Planned}
+use Rattle.list.specs.Lists.{maxChannels, channels}
 use Rattle.plan.specs.declared.Steps.{Steps}
-use Rattle.plan.specs.Steps as S
 use Rattle.plan.specs.Steps.{steps}
-use Rattle.plan.specs.Default.{stoppingSide, defaultSteps}
-use Rattle.plan.specs.Plans as P
-use Rattle.plan.specs.Plans.{meant, hasOther, judgeMeant, judgePlan, steppedAll, rewritten, planned}
-use Rattle.plan.proofs.Packed.{packed-count, steps-packed}
-use Rattle.plan.proofs.Answers.{rewritten-accepted}
+use Rattle.plan.specs.Plans.{meant, rewritten}
 use Rattle.record.specs.declared.Record.{Record}
-use Rattle.record.specs.Reading.{formOf}
-use Rattle.record.specs.Records as R
-use Rattle.record.specs.Records.{readAnswer, readOf}
-use Rattle.plan.proofs.Judged.{plan-answer}
+use Rattle.record.specs.Records.{readOf}
+use Rattle.plan.proofs.Judged.{reached-few, reached-back}
 use Rattle.record.proofs.Readings.{read-answer, read-zero, read-judged, list-back, steps-back}
 use Rattle.listing.specs.Text.{numbered, refusedWord}
 use Rattle.listing.specs.Listing.{planText, listing, listed, textAfter, judgedBytes, printed, printedOver}
 use Rattle.listing.specs.Putting.{Put}
-use Rattle.listing.proofs.Held.{steps-count}
 
 -- ---- the listing: f is what `read_record` gave
 module _ (bytes : List ℕ) (f : Record) (e : f ≡ readOf bytes) where
@@ -46,21 +29,12 @@ module _ (bytes : List ℕ) (f : Record) (e : f ≡ readOf bytes) where
   module _ (z : f .answer ≡ 0) where
     -- r is what `rewrite` gave
     module _ (r : Stepped) (er : r ≡ rewritten (f .list) (f .steps)) where
-      pub reached-few : r .list .count ≤ maxChannels
-      reached-few =
-          let ok : r .answer ≡ 0 = plan-answer (f .list) (f .steps) r er ∙ read-judged bytes f e z in
-          count-inside (r .list) (rw (← er) at (rewritten-accepted (f .list) (f .steps) (rw er at ok))) .1
-
-      reached-back : channels (r .list) ≡ steppedAll (meant (steps (f .steps)) (channels (f .list))) (channels (f .list))
-      unfolding P.rewritten P.outcome Lists.packed
-      reached-back =
-          let cs = steppedAll (meant (steps (f .steps)) (channels (f .list))) (channels (f .list)) in
-          let packs : r .list ≡ Lists.packed cs = ap (λ (x : Stepped). x .list) er ∙ rw (read-judged bytes f e z) in
-          ap channels packs ∙ channels-packed cs (omega (arith, ap (λ (x : ChannelList). x .count) packs, reached-few))
+      pub listed-few : r .list .count ≤ maxChannels
+      listed-few = reached-few (f .list) (f .steps) (read-judged bytes f e z) r er
 
       pub listing-accepted : (s : Steps) → steps s ≡ meant (steps (f .steps)) (channels (f .list)) → planText (steps s) (channels (r .list)) ≡ listing bytes
       unfolding listing
-      listing-accepted s es = rw (read-zero bytes f e z, reached-back, es, list-back bytes f e z, steps-back bytes f e z)
+      listing-accepted s es = rw (read-zero bytes f e z, reached-back (f .list) (f .steps) (read-judged bytes f e z) r er, es, list-back bytes f e z, steps-back bytes f e z)
 
 -- ---- the slice: the listing's length is n
 module _ (bytes text : List ℕ) (n : ℕ) (en : n ≡ length (listing bytes)) where

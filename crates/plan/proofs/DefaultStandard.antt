@@ -17,7 +17,7 @@ use Rattle.list.specs.Lists.{halved}
 use Rattle.list.specs.Questions.{channelOf}
 use Rattle.plan.specs.Default as D
 use Rattle.plan.specs.Default.{stoppingSide, leading, metaCount, when, step, rounds, allChannels, chroma, defaultSteps}
-use Rattle.plan.specs.StandardDefault.{others, othersFrom, While, both, wide, tall, over, InPlace, vertical-first, loop-alone, Chroma, AllInPlace, StandardDefault, chroma-first, in-place-alone, ChromaSidesAbove1}
+use Rattle.plan.specs.StandardDefault.{others, othersFrom, While, both, wide, tall, over, InPlace, vertical-first, loop-alone, Chroma, AllInPlace, StandardDefault, chroma-first, in-place-alone, ChromaSidesAbove1, dots}
 use Rattle.plan.proofs.Turns.{stops, rounds-done, rounds-turn}
 use Rattle.plan.proofs.Parts as Parts
 
@@ -214,13 +214,7 @@ module _ (cs : List Channel) where
       go false false ex ey h = absurd (omega arith)
   standard-sides (in-place-alone none r) c = absurd (none c)
 
--- ---- the smallest difference: three channels 1 by 1, where the standard has two steps and document 01 none
-abbrev pub dots : List Channel
-dots = dot ∷ dot ∷ dot ∷ []
-  where
-    dot : Channel
-    dot = record { width = 1; height = 1; hshift = 0; vshift = 0 }
-
+-- ---- the smallest difference: the standard has two steps and document 01 none
 pub dots-standard : StandardDefault dots (step true false 1 2 ∷ step false false 1 2 ∷ [])
 unfolding C.isMeta
 dots-standard =

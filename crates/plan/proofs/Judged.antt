@@ -1,20 +1,23 @@
--- What the answer 0 to questions 3 to 11 says of a list and its steps, and of the steps that are meant. Assumes nothing.
+-- What the answer 0 to questions 3 to 11 says of a list and its steps, of the steps that are meant and of the list that they leave. Assumes
+-- nothing.
 use mathlib.Core.Path.{_≡_, sym, ap, _∙_}
 use Prim.Native.Nat.{_≤_}
 use native.Mathlib.Omega.{arith}
 use lib.ListN.{length}
 use Rattle.list.specs.declared.ChannelList.{ChannelList}
 use Rattle.list.specs.declared.Stepped.{Stepped}
+use Rattle.list.specs.Lists as Lists
 use Rattle.list.specs.Lists.{maxChannels, maxSteps, channels}
 use Rattle.list.specs.Questions.{judgeList}
 use Rattle.list.proofs.Acceptance.{count-inside}
+use Rattle.list.proofs.Packed.{channels-packed}
 use Rattle.plan.specs.declared.Planned.{Planned}
 use Rattle.plan.specs.declared.Steps.{Steps}
 use Rattle.plan.specs.Steps.{steps}
 use Rattle.plan.specs.Plans as Plans
-use Rattle.plan.specs.Plans.{judgeForm, judgeMeant, judgePlan, judgeSteps, meant, rewritten, judgeMeaning, meantSteps}
+use Rattle.plan.specs.Plans.{judgeForm, judgeMeant, judgePlan, judgeSteps, steppedAll, meant, rewritten, judgeMeaning, meantSteps}
 use Rattle.plan.proofs.Runs.{none-refused}
-use Rattle.plan.proofs.Answers.{steps-length, form-accepted, plan-meaning, meaning-steps, outcome-answer}
+use Rattle.plan.proofs.Answers.{steps-length, form-accepted, plan-meaning, meaning-steps, outcome-answer, rewritten-accepted}
 
 module _ (l : ChannelList) (s : Steps) where
   -- r is what `rewrite` gave
@@ -45,6 +48,18 @@ module _ (l : ChannelList) (s : Steps) where
     -- the steps that are meant are accepted
     pub meant-judged : judgeSteps (meant (steps s) (channels l)) (channels l) ≡ 0
     meant-judged = meaning .1
+
+    -- r is what `rewrite` gave: the list that the steps leave
+    module _ (r : Stepped) (e : r ≡ rewritten l s) where
+      pub reached-few : r .list .count ≤ maxChannels
+      reached-few = count-inside (r .list) (rw (← e) at (rewritten-accepted l s (rw e at (plan-answer r e ∙ ok)))) .1
+
+      pub reached-back : channels (r .list) ≡ steppedAll (meant (steps s) (channels l)) (channels l)
+      unfolding Plans.rewritten Plans.outcome Lists.packed
+      reached-back =
+          let cs = steppedAll (meant (steps s) (channels l)) (channels l) in
+          let packs : r .list ≡ Lists.packed cs = ap (λ (x : Stepped). x .list) e ∙ rw ok in
+          ap channels packs ∙ channels-packed cs (omega (arith, ap (λ (x : ChannelList). x .count) packs, reached-few))
 
     -- r is what `meant_steps` gave
     pub meant-is : (r : Planned) → r ≡ meantSteps l s → r .steps .count ≤ maxSteps → steps (r .steps) ≡ meant (steps s) (channels l)

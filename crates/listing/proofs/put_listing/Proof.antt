@@ -3,7 +3,7 @@ use native.Mathlib.Omega.{arith}
 use borrow.Author.Needs.{needs}
 use Rattle.plan.proofs.Judged.{meant-is}
 use Rattle.record.proofs.Readings.{read-judged}
-use Rattle.listing.proofs.Outcomes.{listing-refused, reached-few, listing-accepted}
+use Rattle.listing.proofs.Outcomes.{listing-refused, listed-few, listing-accepted}
 use Rattle.listing.proofs.put_listing.Statement.{statement}
 use Rattle.listing.proofs.put_listing.Tie as tie
 
@@ -40,7 +40,7 @@ put-plan-requires c κs =
     let w = m .before .before in
     let e = w .before in
     let f = e .before .before .read-record in
-    (m .meant-steps .ensures .1, reached-few _ _ (f .ensures) (e .if1 .left) _ (w .rewrite .ensures), omega arith)
+    (m .meant-steps .ensures .1, listed-few _ _ (f .ensures) (e .if1 .left) _ (w .rewrite .ensures), omega arith)
 
 same-length-2 : tie.Need-same-length-2
 same-length-2 c = search needs
