@@ -3,7 +3,12 @@
 use mathlib.Core.Bool.{Bool, _&&_, _||_}
 use Prim.Native.Nat.{ℕ, _*_}
 use lib.Dec.{eqb, leb}
+use Rattle.numbers.specs.Numbers.{maxSide}
 use Rattle.channel.specs.declared.Channel.{Channel}
+
+-- "width and height (0 to 65,535)"
+unfoldable pub sidesFit : Channel → Bool
+sidesFit c = leb (c .width) maxSide && leb (c .height) maxSide
 
 -- the largest shift, and the shift that marks a meta channel in both directions
 abbrev pub maxShift : ℕ

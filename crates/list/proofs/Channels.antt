@@ -13,7 +13,7 @@ use Rattle.list.specs.declared.Step.{Step}
 use Rattle.list.specs.Tables.{table}
 use Rattle.list.specs.Lists.{maxChannels, channelAt, channels, range}
 use Rattle.list.specs.Questions.{channelOf, rangeAllowed}
-use Rattle.list.proofs.Tables.{table-length, table-at, table-part}
+use Rattle.list.proofs.Tables.{table-length, table-at, table-part, table-within}
 
 -- question 7
 pub range-inside : (s : Step) (cs : List Channel) → rangeAllowed s cs ≡ true → (1 ≤ s .number) × (s .begin + s .number ≤ length cs)
@@ -46,3 +46,12 @@ module _ (l : ChannelList) where
       let z : 0 + s .begin ≡ s .begin = omega arith in
       let m : s .begin + s .number - s .begin ≡ s .number = omega arith in
       table-part (channelAt l) 0 (min (l .count) maxChannels) (s .begin) (s .number) (omega arith) ∙ rw (z, m)
+
+  -- the range of any step, as far as the list has it
+  pub channels-within : (s : Step) (end : ℕ) → end ≡ min (s .begin + s .number) (min (l .count) maxChannels)
+      → range s (channels l) ≡ table (channelAt l) (s .begin) (end - s .begin)
+  unfolding channels
+  channels-within s end h =
+      let z : 0 + s .begin ≡ s .begin = omega arith in
+      let m : min (s .number) (min (l .count) maxChannels - s .begin) ≡ end - s .begin = omega arith in
+      table-within (channelAt l) 0 (min (l .count) maxChannels) (s .begin) (s .number) ∙ rw (z, m)

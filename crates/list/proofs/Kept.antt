@@ -26,14 +26,14 @@ all-joined p false rs xs a b = all-append p xs rs b a
 
 module _ (s : Step) (cs : List Channel) where
   -- what is true of the whole list is true of its parts
-  parts-all : (p : Channel → Bool) → all p cs ≡ true → (all p (before s cs) ≡ true) × (all p (range s cs) ≡ true) × (all p (after s cs) ≡ true)
+  pub parts-all : (p : Channel → Bool) → all p cs ≡ true → (all p (before s cs) ≡ true) × (all p (range s cs) ≡ true) × (all p (after s cs) ≡ true)
   parts-all p a =
       let b = all-parts p (before s cs) (range s cs ++ after s cs) (rw (parts-whole s cs) a) in
       let r = all-parts p (range s cs) (after s cs) (b .1) in
       (b .0, r .0, r .1)
 
   -- a test that both parts of each channel of the range pass, and the other channels, is passed by the list that the step leaves
-  stepped-all : (p : Channel → Bool) → all p (before s cs) ≡ true → all p (averages s cs) ≡ true → all p (residuals s cs) ≡ true → all p (after s cs) ≡ true
+  pub stepped-all : (p : Channel → Bool) → all p (before s cs) ≡ true → all p (averages s cs) ≡ true → all p (residuals s cs) ≡ true → all p (after s cs) ≡ true
       → all p (stepped s cs) ≡ true
   unfolding stepped
   stepped-all p b a r o =

@@ -28,7 +28,7 @@ pub raised-meta : (h : Bool) (c : Channel) → isMeta c ≡ true → raised h c 
 unfolding raised
 raised-meta h c e = rw e
 
-raised-plain : (h : Bool) (c : Channel) → isMeta c ≡ false → raised h c ≡ lifted h c
+pub raised-plain : (h : Bool) (c : Channel) → isMeta c ≡ false → raised h c ≡ lifted h c
 unfolding raised
 raised-plain h c e = rw e
 

@@ -3,7 +3,7 @@
 use mathlib.Core.Path.{_≡_, refl, ap}
 use mathlib.Core.Bool.{Bool, true, false}
 use mathlib.Core.List.{List, [], _∷_}
-use Prim.Native.Nat.{ℕ, zero, suc, _+_, _-_, _<_, _≤_}
+use Prim.Native.Nat.{ℕ, zero, suc, _+_, _-_, _<_, _≤_, min}
 use native.Mathlib.Omega.{arith}
 use native.Mathlib.Numerals.{add-one}
 use lib.ListN.{length, getD, take, drop}
@@ -35,6 +35,18 @@ module _ {ℓ} {A : Type ℓ} (f : ℕ → A) where
   table-part k n zero m h = let e : k + 0 ≡ k = omega arith in rw e (table-take k n m (omega arith))
   table-part k zero (suc b) m h = absurd (omega arith)
   table-part k (suc n) (suc b) m h = let e : k + suc b ≡ suc k + b = omega arith in rw e (table-part (suc k) n b m (omega arith))
+
+  -- the same where the table is shorter
+  table-first : (k n m : ℕ) → take m (table f k n) ≡ table f k (min m n)
+  table-first k n zero = let e : min 0 n ≡ 0 = omega arith in rw e
+  table-first k zero (suc m) = let e : min (suc m) 0 ≡ 0 = omega arith in rw e
+  table-first k (suc n) (suc m) = let e : min (suc m) (suc n) ≡ suc (min m n) = omega arith in rw e (ap (λ (l : List A). f k ∷ l) (table-first (suc k) n m))
+
+  pub table-within : (k n b m : ℕ) → take m (drop b (table f k n)) ≡ table f (k + b) (min m (n - b))
+  table-within k n zero m = let e : k + 0 ≡ k = omega arith in let z : n - 0 ≡ n = omega arith in rw (e, z) (table-first k n m)
+  table-within k zero (suc b) zero = let e : min 0 (0 - suc b) ≡ 0 = omega arith in rw e
+  table-within k zero (suc b) (suc m) = let e : min (suc m) (0 - suc b) ≡ 0 = omega arith in rw e
+  table-within k (suc n) (suc b) m = let e : k + suc b ≡ suc k + b = omega arith in let z : suc n - suc b ≡ n - b = omega arith in rw (e, z) (table-within (suc k) n b m)
 
 -- a test of every entry from k on, where v and the test's answer b were found at k
 module _ {ℓ} {A : Type ℓ} (f : ℕ → A) (p : A → Bool) (k n : ℕ) (v : A) (b : Bool) (h : k < n) (ev : v ≡ f k) (eb : b ≡ p v) where

@@ -3,12 +3,13 @@
 use mathlib.Core.Bool.{Bool, cond}
 use mathlib.Core.List.{List, [], _∷_, _++_}
 use Prim.Native.Nat.{ℕ, _+_, _-_, _/_, min}
+use lib.Dec.{leb}
 use lib.ListN.{length, take, drop, getD}
 use Rattle.channel.specs.declared.Channel.{Channel}
 use Rattle.channel.specs.Channel.{isMeta, samples}
 use Rattle.list.specs.declared.ChannelList.{ChannelList}
 use Rattle.list.specs.declared.Step.{Step}
-use Rattle.list.specs.Tables.{table, padded, map}
+use Rattle.list.specs.Tables.{table, padded, map, all}
 
 -- "The list carries its own limits, 256 channels and 64 steps"
 abbrev pub maxChannels : ℕ
@@ -91,6 +92,13 @@ stepped s cs =
     ++ cond (s .inplace)
     (map (residual (s .horizontal)) (range s cs) ++ after s cs)
     (after s cs ++ map (residual (s .horizontal)) (range s cs)))
+
+-- a channel with at most one sample along the step's lines leaves a residual without a sample; a step moves nothing where all of its range do
+unfoldable pub isStill : Bool → Channel → Bool
+isStill horizontal c = leb (cond horizontal (c .width) (c .height)) 1
+
+unfoldable pub still : Step → List Channel → Bool
+still s cs = all (isStill (s .horizontal)) (range s cs)
 
 -- ---- "all samples of the list"
 abbrev pub total : List Channel → ℕ

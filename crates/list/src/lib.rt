@@ -66,6 +66,13 @@ fn with_side(c: Channel, horizontal: bool, side: u16) -> Channel
     sided
 }
 
+// Whether the channel's residual holds no sample.
+fn is_still(c: Channel, horizontal: bool) -> bool
+    ensures { λ r. ⌜ r ≡ Lists.isStill horizontal c ⌝ }
+{
+    side(c, horizontal) <= 1
+}
+
 // Question 10, of one channel.
 fn has_sides(c: Channel) -> bool
     ensures { λ r. ⌜ r ≡ Questions.hasSides c ⌝ }
@@ -173,7 +180,7 @@ impl ChannelList {
     }
 
     // How many channels are meant.
-    fn len(self) -> usize
+    pub fn len(self) -> usize
         ensures { λ r. ⌜ r ≡ min (self .count) Lists.maxChannels ⌝ }
     {
         if self.count < ChannelList::MAX_CHANNELS {
@@ -325,6 +332,30 @@ impl ChannelList {
             return answer;
         }
         self.judge_step(step)
+    }
+
+    // Where a step's range ends, as far as the list has it.
+    fn range_end(self, step: Step) -> usize
+        ensures { λ r. ⌜ r ≡ min (step .begin + step .number) (min (self .count) Lists.maxChannels) ⌝ }
+    {
+        let end = step.begin as usize + step.number as usize;
+        let count = self.len();
+        if end < count { end } else { count }
+    }
+
+    // Whether a step leaves each sample where it is: none of its residuals holds
+    // one.
+    pub fn stays(self, step: Step) -> bool
+        ensures { λ r. ⌜ r ≡ Lists.still step (Lists.channels self) ⌝ }
+    {
+        let begin = step.begin as usize;
+        let end = self.range_end(step);
+        for k in begin..end {
+            if !is_still(self.channel(k), step.horizontal) {
+                return false;
+            }
+        }
+        true
     }
 
     // Where the residuals start in the list that a step leaves.

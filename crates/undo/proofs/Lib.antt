@@ -1,0 +1,4 @@
+pub mod Pieces
+pub mod OneChannel
+pub mod OneStep
+pub mod Entries
