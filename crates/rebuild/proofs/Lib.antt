@@ -7,5 +7,7 @@ pub mod Overs
 pub mod Ranges
 pub mod Moves
 pub mod Places
+pub mod Sixteen
+pub mod Still
 pub mod StepsBack
 pub mod Outcome

@@ -1,21 +1,22 @@
--- What the parts of a plan run ask of their callers and give them: a channel, a step's range, a step, the steps from one on. Definitions only.
+-- What the parts of a plan run ask of their callers and give them: a channel, a step's range, a step, a run of steps. Definitions only.
 use mathlib.Core.Path.{_≡_}
-use mathlib.Core.Bool.{Bool}
+use mathlib.Core.Bool.{Bool, true}
 use mathlib.Core.List.{List, _++_}
 use Prim.Native.Nat.{ℕ, _+_, _-_, _≤_}
 use lib.IntN.{ℤ}
 use lib.ListN.{length, take, drop}
 use Rattle.numbers.specs.Numbers.{maxSamples}
 use Rattle.channel.specs.declared.Channel.{Channel}
-use Rattle.channel.specs.Channel.{samples}
+use Rattle.channel.specs.Channel.{samples, sidesFit}
 use Rattle.list.specs.declared.ChannelList.{ChannelList}
 use Rattle.list.specs.declared.Step.{Step}
-use Rattle.list.specs.Tables.{table, map}
+use Rattle.list.specs.Tables.{map, all}
 use Rattle.list.specs.Lists.{maxSteps, channels, average, residual, range, stepped, total}
-use Rattle.list.specs.Questions.{judgeList}
+use Rattle.list.specs.Accepted.{Accepted}
 use Rattle.plan.specs.declared.Steps.{Steps}
-use Rattle.plan.specs.Steps.{stepAt}
-use Rattle.plan.specs.Plans.{judgeSteps}
+use Rattle.plan.specs.Steps.{steps}
+use Rattle.plan.specs.Plans.{judgeSteps, steppedAll}
+use Rattle.undo.specs.Undone.{undoneAll}
 use Rattle.runs.specs.Parts.{parts, joined}
 use Rattle.runs.specs.Runs.{allBack}
 
@@ -88,14 +89,17 @@ pub record StepFits (l next : ChannelList) (s : Step) (pyramid : List ℤ) (touc
   pub stands : Stands touched picture pyramid
   pub work-long : length work ≡ length pyramid
 
--- the steps of a plan from the k-th on, and a run of them on the list l
-abbrev pub stepsFrom : Steps → ℕ → List Step
-stepsFrom s k = table (stepAt s) k (s .count - k)
+-- the list that steps were taken from, found back from the list that they leave
+abbrev pub firstList : Steps → ChannelList → List Channel
+firstList s reached = undoneAll (steps s) (channels reached)
 
-pub record RunFits (l : ChannelList) (s : Steps) (k : ℕ) (pyramid picture work : List ℤ) : Type 0 where
-  pub accepted : judgeList l ≡ 0
+-- a run of accepted steps that leave the list `reached`; the slices have the samples of each list
+pub record RunFits (reached : ChannelList) (s : Steps) (pyramid picture work : List ℤ) : Type 0 where
   pub few : s .count ≤ maxSteps
-  pub taken : judgeSteps (stepsFrom s k) (channels l) ≡ 0
-  pub pyramid-long : length pyramid ≡ total (channels l)
+  pub accepted : Accepted (firstList s reached)
+  pub sides : all sidesFit (firstList s reached) ≡ true
+  pub taken : judgeSteps (steps s) (firstList s reached) ≡ 0
+  pub leads : steppedAll (steps s) (firstList s reached) ≡ channels reached
+  pub pyramid-long : length pyramid ≡ total (firstList s reached)
   pub picture-long : length picture ≡ length pyramid
   pub work-long : length work ≡ length pyramid

@@ -9,7 +9,7 @@ ghost use mathlib.Core.List.{_++_};
 ghost use Prim.Native.Nat.{_+_, _≤_, min, max};
 ghost use lib.ListN.{length, take, drop};
 ghost use Rattle.channel.specs.Channel.{samples};
-ghost use Rattle.list.specs.Lists.{maxSteps, channels, average, range, total};
+ghost use Rattle.list.specs.Lists.{channels, average, range, total};
 ghost use Rattle.line.specs.Forward.{averageCount};
 ghost use Rattle.tile.specs.Call as Call;
 ghost use Rattle.plan.specs.Steps as Spec;
@@ -17,7 +17,7 @@ ghost use Rattle.plan.specs.Plans as Plans;
 ghost use Rattle.buffer.specs.Buffer.{copied};
 ghost use Rattle.runs.specs.Runs.{linesOf, sizeOf, channelBack, stepBack, rebuilt};
 ghost use Rattle.rebuild.specs.Rebuild.{answerOf, pictureAfter, workAfter};
-ghost use Rattle.rebuild.specs.Run.{cut, standing, rangeFrom, stepsFrom, ChannelFits, RangeFits, Stands, LoadFits, OverFits, Over, StepFits, RunFits};
+ghost use Rattle.rebuild.specs.Run.{cut, standing, rangeFrom, firstList, ChannelFits, RangeFits, Stands, LoadFits, OverFits, Over, StepFits, RunFits};
 use channel::Channel;
 use list::ChannelList;
 use list::Step;
@@ -228,9 +228,9 @@ fn moved_to(inplace: bool, to: usize, all: usize) -> usize
     if inplace { to } else { all }
 }
 
-// One step back, from the samples of the list after it, `next`, to those of
-// `list`: its range, and what lies behind it, which the step moves.
-fn step_back(
+// One step back that moves samples, from those of the list after it, `next`, to
+// those of `list`: its range, and what lies behind it.
+fn step_over(
     list: ChannelList,
     next: ChannelList,
     step: Step,
@@ -265,25 +265,50 @@ fn step_back(
     larger(settled, moved)
 }
 
-// The steps from the k-th on, last first; gives back how far the picture goes.
-fn rebuild_from(
+// One step back, from the samples of the list after it, `next`, to those of
+// `list`; one that moves nothing leaves them as they stand.
+fn step_back(
     list: ChannelList,
+    next: ChannelList,
+    step: Step,
+    pyramid: &[i32],
+    touched: usize,
+    picture: &mut [i32],
+    work: &mut [i32],
+) -> usize
+    requires { ⌜ StepFits list next step (now pyramid) touched (now picture) (now work) ⌝ }
+    ensures { λ r. ⌜ (r ≤ length (now (pyramid .entry))) × (standing r (now (picture .exit)) (now (pyramid .entry)) ≡ stepBack step (channels list) (standing touched (now (picture .entry)) (now (pyramid .entry)))) ⌝ }
+{
+    if list.stays(step) {
+        return touched;
+    }
+    step_over(list, next, step, pyramid, touched, picture, work)
+}
+
+// All steps, last first, from the list that they leave; gives back how far the
+// picture goes. The list before a step is the list after it with the step
+// undone, so that one list is kept and not one for each step.
+fn steps_back(
+    reached: ChannelList,
     steps: Steps,
-    k: usize,
     pyramid: &[i32],
     picture: &mut [i32],
     work: &mut [i32],
 ) -> usize
-    requires { ⌜ RunFits list steps k (now pyramid) (now picture) (now work) ⌝ }
-    ensures { λ r. ⌜ (r ≤ length (now (pyramid .entry))) × (standing r (now (picture .exit)) (now (pyramid .entry)) ≡ rebuilt (stepsFrom steps k) (channels list) (now (pyramid .entry))) ⌝ }
+    requires { ⌜ RunFits reached steps (now pyramid) (now picture) (now work) ⌝ }
+    ensures { λ r. ⌜ (r ≤ length (now (pyramid .entry))) × (standing r (now (picture .exit)) (now (pyramid .entry)) ≡ rebuilt (Spec.steps steps) (firstList steps reached) (now (pyramid .entry))) ⌝ }
 {
-    if k < steps.count {
-        let step = steps.step(k);
-        let next = list.step(step).list;
-        let touched = rebuild_from(next, steps, k + 1, pyramid, picture, work);
-        return step_back(list, next, step, pyramid, touched, picture, work);
+    let mut next = reached;
+    let mut touched = 0;
+    let mut left = steps.count;
+    while 0 < left {
+        left -= 1;
+        let step = steps.step(left);
+        let list = undo::undone(next, step);
+        touched = step_back(list, next, step, pyramid, touched, picture, work);
+        next = list;
     }
-    0
+    touched
 }
 
 // The picture that a pyramid holds under a plan. The answer is 0, or the
@@ -297,7 +322,8 @@ pub fn rebuild(
 ) -> u32
     ensures { λ r. ⌜ (r ≡ answerOf list steps (now (pyramid .entry)) (now (picture .entry)) (now (work .entry))) × (now (picture .exit) ≡ pictureAfter list steps (now (pyramid .entry)) (now (picture .entry)) (now (work .entry))) × (now (work .exit) ≡ workAfter list steps (now (pyramid .entry)) (now (picture .entry)) (now (work .entry))) ⌝ }
 {
-    let answer = plan::rewrite(list, steps).answer;
+    let rewritten = plan::rewrite(list, steps);
+    let answer = rewritten.answer;
     if answer != 0 {
         return answer;
     }
@@ -306,7 +332,7 @@ pub fn rebuild(
         return REFUSED_LENGTH;
     }
     let meant = plan::meant_steps(list, steps).steps;
-    let touched = rebuild_from(list, meant, 0, pyramid, picture, work);
+    let touched = steps_back(rewritten.list, meant, pyramid, picture, work);
     settle(pyramid, touched, total, picture);
     buffer::clear(work);
     0

@@ -3,3 +3,4 @@ pub mod OneChannel
 pub mod OneStep
 pub mod Whole
 pub mod AsStandard
+pub mod Still

@@ -65,3 +65,8 @@ undone s ds =
     cond (leb (s .begin + s .number + s .number) (length ds))
     (gathered (rejoined (s .horizontal)) (s .inplace) (s .begin) (s .number) ds)
     []
+
+-- "rebuilding takes the accepted steps last first"
+abbrev pub undoneAll : List Step → List Channel → List Channel
+undoneAll [] ds = ds
+undoneAll (s ∷ ss) ds = undone s (undoneAll ss ds)
