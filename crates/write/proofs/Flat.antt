@@ -11,11 +11,14 @@ use lib.Seq.{take-at, drop-at, drop-drop, take-add, take-all, length-take-le}
 use Rattle.channel.specs.declared.Channel.{Channel}
 use Rattle.channel.specs.Channel.{samples}
 use Rattle.list.specs.declared.Step.{Step}
-use Rattle.list.specs.Lists.{before, range, after, total}
+use Rattle.list.specs.Lists as Lists
+use Rattle.list.specs.Lists.{before, range, after, still, total}
 use Rattle.list.proofs.Parts.{parts-whole}
 use Rattle.runs.specs.Parts.{parts, joined}
 use Rattle.runs.specs.Runs as Runs
 use Rattle.runs.specs.Runs.{each, stepForward}
+use Rattle.runs.proofs.Shapes.{Shaped}
+use Rattle.runs.proofs.Still.{range-averages, range-residuals}
 use Rattle.write.specs.Halves.{halfOf, made}
 use Rattle.write.proofs.Sums.{range-rest}
 use Rattle.write.proofs.Along.{made-front, part-length}
@@ -37,6 +40,12 @@ joined-append (p ∷ ps) qs = rw (joined-append ps qs) (sym (append-assoc p (joi
 joined-front : (cs : List Channel) (xs : List ℤ) → joined (parts cs xs) ≡ take (total cs) xs
 joined-front [] xs = refl
 joined-front (c ∷ cs) xs = rw (joined-front cs (drop (samples c) xs)) (sym (take-add (samples c) (total cs) xs))
+
+parts-shaped-front : (cs : List Channel) (xs : List ℤ) → total cs ≤ length xs → Shaped cs (parts cs xs)
+parts-shaped-front [] xs h = tt
+parts-shaped-front (c ∷ cs) xs h =
+    let d = length-drop (samples c) xs in
+    (length-take-le (samples c) xs (omega arith), parts-shaped-front cs (drop (samples c) xs) (omega arith))
 
 module _ (s : Step) (cs : List Channel) (xs : List ℤ) (inside : s .begin + s .number ≤ length cs) (long : length xs ≡ total cs) where
   -- the samples from the range on, and those behind it
@@ -96,6 +105,23 @@ module _ (s : Step) (cs : List Channel) (xs : List ℤ) (inside : s .begin + s .
           → joined (cond b (d ++ parts (after s cs) behind) (parts (after s cs) behind ++ d)) ≡ cond b (joined d ++ behind) (behind ++ joined d)
       order d true = joined-append d (parts (after s cs) behind) ∙ rw rest-joined
       order d false = joined-append (parts (after s cs) behind) d ∙ rw rest-joined
+
+  -- ---- a step that moves nothing
+  pub forward-still : still s cs ≡ true → stepForward s cs xs ≡ xs
+  unfolding Lists.still halfOf
+  forward-still e =
+      let h = s .horizontal in
+      let t = range-rest s cs in
+      let d = length-drop (total (before s cs)) xs in
+      let m : total (range s cs) ≤ length onward = omega arith in
+      let a : made (halfOf false h) (range s cs) onward ≡ take (total (range s cs)) onward =
+      ap joined (range-averages h (range s cs) (parts (range s cs) onward) e (parts-shaped-front (range s cs) onward m)) ∙ joined-front (range s cs) onward in
+      let r : made (halfOf true h) (range s cs) onward ≡ [] = range-residuals h (range s cs) (parts (range s cs) onward) e in
+      forward-flat ∙ rw (a, r, alone (s .inplace) behind, take-append-drop (total (range s cs)) onward) (take-append-drop (total (before s cs)) xs)
+    where
+      alone : (inplace : Bool) (z : List ℤ) → cond inplace ([] ++ z) (z ++ []) ≡ z
+      alone true z = refl
+      alone false z = append-nil z
 
   -- ---- what the two functions for the range leave
   module _ (from to : ℕ) (q : List ℤ) (ef : from ≡ total (before s cs)) (et : to ≡ total (before s cs) + total (range s cs)) where

@@ -134,8 +134,8 @@ fn squeeze_rest(list: ChannelList, step: Step, n: usize, pyramid: &mut [i32], wo
     put_halves(list, step, true, work, &mut pyramid[r..]);
 }
 
-// One step of an accepted list, on its samples.
-fn step_forward(list: ChannelList, step: Step, pyramid: &mut [i32], work: &mut [i32])
+// One step of an accepted list that moves samples.
+fn squeeze_step(list: ChannelList, step: Step, pyramid: &mut [i32], work: &mut [i32])
     requires { ⌜ StepAccepted step (channels list) × (length (now pyramid) ≡ total (channels list)) × (length (now work) ≡ total (channels list)) ⌝ }
     ensures { λ _. ⌜ now (pyramid .exit) ≡ stepForward step (channels list) (now (pyramid .entry)) ⌝ }
 {
@@ -147,6 +147,18 @@ fn step_forward(list: ChannelList, step: Step, pyramid: &mut [i32], work: &mut [
     } else {
         squeeze_rest(list, step, to - from, &mut pyramid[from..], work);
     }
+}
+
+// One step of an accepted list, on its samples; one that moves nothing leaves
+// them as they are.
+fn step_forward(list: ChannelList, step: Step, pyramid: &mut [i32], work: &mut [i32])
+    requires { ⌜ StepAccepted step (channels list) × (length (now pyramid) ≡ total (channels list)) × (length (now work) ≡ total (channels list)) ⌝ }
+    ensures { λ _. ⌜ now (pyramid .exit) ≡ stepForward step (channels list) (now (pyramid .entry)) ⌝ }
+{
+    if list.stays(step) {
+        return;
+    }
+    squeeze_step(list, step, pyramid, work);
 }
 
 // Accepted steps on the samples of an accepted list, first to last.
