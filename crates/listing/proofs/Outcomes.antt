@@ -1,24 +1,28 @@
 -- What a listing comes to (specs/Listing.antt), by the answers that the code has found on the way. Assumes nothing.
-use mathlib.Core.Path.{_≡_, _∙_}
-use mathlib.Core.List.{List}
-use Prim.Native.Nat.{ℕ, _<_, _≤_}
+use mathlib.Core.Path.{_≡_, refl, _∙_}
+use mathlib.Core.Bool.{true, false, _&&_, and-eq-true-iff}
+use mathlib.Core.List.{List, [], _∷_}
+use Prim.Native.Nat.{ℕ, _≤_}
 use native.Mathlib.Nat.{zero-add}
 use native.Mathlib.Omega.{arith}
-use lib.ListN.{length, take}
-use borrow.Author.Tests.{ne-eqb, le-leb, lt-leb}
+use lib.Dec.{leb}
+use lib.ListN.{length, take, drop, set}
+use borrow.Author.Tests.{ne-eqb, leb-true}
 use Rattle.numbers.specs.Numbers.{refusedLength}
-use Rattle.list.specs.declared.Stepped.{Stepped}
-use Rattle.list.specs.Lists.{maxChannels, channels}
-use Rattle.plan.specs.declared.Steps.{Steps}
+use Rattle.list.specs.Lists.{channels}
 use Rattle.plan.specs.Steps.{steps}
-use Rattle.plan.specs.Plans.{meant, rewritten}
 use Rattle.record.specs.declared.Record.{Record}
 use Rattle.record.specs.Records.{readOf}
-use Rattle.plan.proofs.Judged.{reached-few, reached-back}
-use Rattle.record.proofs.Readings.{read-answer, read-zero, read-judged, list-back, steps-back}
+use Rattle.record.proofs.Readings.{read-answer, read-zero, list-back, steps-back}
 use Rattle.listing.specs.Text.{numbered, refusedWord}
-use Rattle.listing.specs.Listing.{planText, listing, listed, textAfter, judgedBytes, printed, printedOver}
+use Rattle.listing.specs.Listing.{recordText, listing, listAnswer, textAfter, sizeAfter, judgedBytes, printed, printedOver}
 use Rattle.listing.specs.Putting.{Put}
+
+-- ---- both slices have room
+pub room-left : (n text size : ℕ) → leb n text && leb 1 size ≡ true → (n ≤ text) × (1 ≤ size)
+room-left n text size h =
+    let b = and-eq-true-iff (leb n text) (leb 1 size) .0 h in
+    (leb-true _ _ (b .0), leb-true _ _ (b .1))
 
 -- ---- the listing: f is what `read_record` gave
 module _ (bytes : List ℕ) (f : Record) (e : f ≡ readOf bytes) where
@@ -27,29 +31,42 @@ module _ (bytes : List ℕ) (f : Record) (e : f ≡ readOf bytes) where
   listing-refused h = rw (← read-answer bytes f e, ne-eqb (f .answer) 0 h)
 
   module _ (z : f .answer ≡ 0) where
-    -- r is what `rewrite` gave
-    module _ (r : Stepped) (er : r ≡ rewritten (f .list) (f .steps)) where
-      pub listed-few : r .list .count ≤ maxChannels
-      listed-few = reached-few (f .list) (f .steps) (read-judged bytes f e z) r er
+    pub listing-accepted : recordText (steps (f .steps)) (channels (f .list)) ≡ listing bytes
+    unfolding listing
+    listing-accepted = rw (read-zero bytes f e z, list-back bytes f e z, steps-back bytes f e z)
 
-      pub listing-accepted : (s : Steps) → steps s ≡ meant (steps (f .steps)) (channels (f .list)) → planText (steps s) (channels (r .list)) ≡ listing bytes
-      unfolding listing
-      listing-accepted s es = rw (read-zero bytes f e z, reached-back (f .list) (f .steps) (read-judged bytes f e z) r er, es, list-back bytes f e z, steps-back bytes f e z)
+  -- ---- the call
+  module _ (text size : List ℕ) where
+    abbrev Ends : ℕ → List ℕ → List ℕ → Type 0
+    Ends a t n = (a ≡ listAnswer bytes text size) × (t ≡ textAfter bytes text size) × (n ≡ sizeAfter bytes text size)
 
--- ---- the slice: the listing's length is n
-module _ (bytes text : List ℕ) (n : ℕ) (en : n ≡ length (listing bytes)) where
-  pub listed-short : length text < n → (record { answer = refusedLength; length = 0 } ≡ listed bytes text) × (text ≡ textAfter bytes text)
-  unfolding listed textAfter
-  listed-short h =
-      let t = lt-leb (length (listing bytes)) (length text) (omega arith) in
-      (rw t, rw t)
+    pub list-refused : (f .answer ≡ 0 → ⊥) → Ends (f .answer) text size
+    unfolding listAnswer textAfter sizeAfter
+    list-refused h =
+        let a = read-answer bytes f e in
+        let t = ne-eqb (f .answer) 0 h in
+        (rw (← a, t), rw (← a, t, t), rw (← a, t, t))
 
-  pub listed-whole : n ≤ length text → (after : List ℕ) (end : ℕ) → Put (listing bytes) 0 text after end
-      → (record { answer = 0; length = n } ≡ listed bytes text) × (after ≡ textAfter bytes text)
-  unfolding listed textAfter
-  listed-whole h after end p =
-      let t = le-leb (length (listing bytes)) (length text) (omega arith) in
-      (rw (t, en), rw t (p .so ∙ rw zero-add))
+    -- the listing's length is n
+    module _ (z : f .answer ≡ 0) (n : ℕ) (en : n ≡ length (listing bytes)) where
+      pub list-short : leb n (length text) && leb 1 (length size) ≡ false → Ends refusedLength text size
+      unfolding listAnswer textAfter sizeAfter
+      list-short h =
+          let r = read-zero bytes f e z in
+          let t = rw en at h in
+          (rw (r, t), rw (r, t), rw (r, t))
+
+      pub list-whole : leb n (length text) && leb 1 (length size) ≡ true → (after : List ℕ) (end : ℕ) → Put (listing bytes) 0 text after end
+          → Ends 0 after (set size 0 n)
+      unfolding listAnswer textAfter sizeAfter
+      list-whole h after end p =
+          let t = rw en at h in
+          let r = read-zero bytes f e z in
+          (rw (r, t), rw (r, t) (p .so ∙ rw zero-add), rw (r, t) (first size (room-left n (length text) (length size) h .1) ∙ rw en))
+        where
+          first : (xs : List ℕ) → 1 ≤ length xs → set xs 0 n ≡ n ∷ drop 1 xs
+          first [] l = absurd (omega arith)
+          first (x ∷ xs) l = refl
 
 -- ---- the program's text: `judged` is what was listed
 module _ (input judged text after : List ℕ) (end : ℕ) (is : judged ≡ take judgedBytes input) (p : Put (listing judged) 0 text after end) where

@@ -1,16 +1,18 @@
 -- The listing of a record (document 01, "Proved table", the program squeeze-list): the steps of its plan, the default plan by its steps, the
 -- rewritten list and the coarse count; or "A refusal is one line, `refused` and the number". Definitions only.
-use mathlib.Core.Bool.{cond}
-use mathlib.Core.List.{List, _++_}
+use mathlib.Core.Bool.{cond, _&&_}
+use mathlib.Core.List.{List, _∷_, _++_}
 use Prim.Native.Nat.{ℕ}
 use lib.Dec.{eqb, leb}
 use lib.ListN.{length, take, drop}
 use Rattle.numbers.specs.Numbers.{refusedLength}
 use Rattle.channel.specs.declared.Channel.{Channel}
 use Rattle.list.specs.declared.Step.{Step}
+use Rattle.list.specs.Questions.{ask}
 use Rattle.plan.specs.Default.{stoppingSide, coarseCount}
-use Rattle.record.specs.Records.{readAnswer, stepsOf, reachedOf}
-use Rattle.listing.specs.declared.Listed.{Listed}
+use Rattle.plan.specs.Plans.{meant, steppedAll}
+use Rattle.record.specs.Reading.{formOf}
+use Rattle.record.specs.Records.{readAnswer, channelsOf}
 use Rattle.listing.specs.Text.{stepsWord, channelsWord, coarseWord, refusedWord, numbered, stepLines, channelLines}
 
 -- the lines of a plan's steps and of the list that it leaves
@@ -21,22 +23,29 @@ planText ss cs =
     ++ (numbered channelsWord (length cs)
     ++ (channelLines cs ++ numbered coarseWord (coarseCount stoppingSide cs))))
 
+-- those of a list and its steps, "the default plan by its steps"
+abbrev pub recordText : List Step → List Channel → List ℕ
+recordText ss cs = planText (meant ss cs) (steppedAll (meant ss cs) cs)
+
 unfoldable pub listing : List ℕ → List ℕ
 listing bytes =
     cond (eqb (readAnswer bytes) 0)
-    (planText (stepsOf bytes) (reachedOf bytes))
+    (recordText (formOf bytes .steps) (channelsOf bytes))
     (numbered refusedWord (readAnswer bytes))
 
--- the text over the front of a slice that has room for it (question 14: 12), and the rest as it was
-unfoldable pub listed : List ℕ → List ℕ → Listed
-listed bytes text =
-    cond (leb (length (listing bytes)) (length text))
-    (record { answer = 0; length = length (listing bytes) })
-    (record { answer = refusedLength; length = 0 })
+-- ---- the call: the record's questions, then 14 of the slices for the text and, one number, for its length
+unfoldable pub listAnswer : List ℕ → List ℕ → List ℕ → ℕ
+listAnswer bytes text size =
+    ask (eqb (readAnswer bytes) 0) (readAnswer bytes)
+    (ask (leb (length (listing bytes)) (length text) && leb 1 (length size)) refusedLength 0)
 
-unfoldable pub textAfter : List ℕ → List ℕ → List ℕ
-textAfter bytes text =
-    cond (leb (length (listing bytes)) (length text)) (listing bytes ++ drop (length (listing bytes)) text) text
+-- the slices afterwards: the listing over the front of the one, its length in the other, and the rest as it was
+unfoldable pub textAfter : List ℕ → List ℕ → List ℕ → List ℕ
+textAfter bytes text size =
+    cond (eqb (listAnswer bytes text size) 0) (listing bytes ++ drop (length (listing bytes)) text) text
+
+unfoldable pub sizeAfter : List ℕ → List ℕ → List ℕ → List ℕ
+sizeAfter bytes text size = cond (eqb (listAnswer bytes text size) 0) (length (listing bytes) ∷ drop 1 size) size
 
 -- ---- the program: "judges the first 4,096 bytes of standard input"
 abbrev pub judgedBytes : ℕ

@@ -5,7 +5,7 @@ ghost use Prim.Native.Nat.{_+_, _*_, _%_, _≤_};
 ghost use lib.ListN.{length};
 ghost use Rattle.list.specs.Lists.{maxChannels, maxSteps, channels};
 ghost use Rattle.plan.specs.Steps as StepsSpec;
-ghost use Rattle.plan.specs.Plans.{meant, judgePlan};
+ghost use Rattle.plan.specs.Plans.{judgePlan};
 ghost use Rattle.listing.specs.Text as Text;
 ghost use Rattle.listing.specs.Putting as Putting;
 ghost use Rattle.listing.specs.Putting.{Put};
@@ -15,12 +15,6 @@ use list::ChannelList;
 use list::Step;
 use numbers::REFUSED_LENGTH;
 use plan::Steps;
-
-// The answer 0 with the text's length, or 12 where the slice has no room.
-pub struct Listed {
-    pub answer: u32,
-    pub length: usize,
-}
 
 // Room for any listing: at most 64 step lines and 256 channel lines.
 pub const LISTING_ROOM: usize = 8192;
@@ -210,6 +204,16 @@ fn put_plan(steps: Steps, list: ChannelList, text: &mut [u8]) -> usize
     put_numbered(b"coarse ", plan::coarse_count(list), end, text)
 }
 
+// The lines of a list and its steps that are accepted.
+fn put_record(list: ChannelList, steps: Steps, text: &mut [u8]) -> usize
+    requires { ⌜ (judgePlan list steps ≡ 0) × (Putting.listingRoom ≤ length (now text)) ⌝ }
+    ensures { λ r. ⌜ Put (Spec.recordText (StepsSpec.steps steps) (channels list)) 0 (now (text .entry)) (now (text .exit)) r ⌝ }
+{
+    let reached = plan::rewrite(list, steps).list;
+    let meant = plan::meant_steps(list, steps).steps;
+    put_plan(meant, reached, text)
+}
+
 fn put_listing(bytes: &[u8], text: &mut [u8]) -> usize
     requires { ⌜ Putting.listingRoom ≤ length (now text) ⌝ }
     ensures { λ r. ⌜ Put (Spec.listing (now (bytes .entry))) 0 (now (text .entry)) (now (text .exit)) r ⌝ }
@@ -218,27 +222,27 @@ fn put_listing(bytes: &[u8], text: &mut [u8]) -> usize
     if read.answer != 0 {
         return put_numbered(b"refused ", read.answer as usize, 0, text);
     }
-    let reached = plan::rewrite(read.list, read.steps).list;
-    let steps = plan::meant_steps(read.list, read.steps).steps;
-    put_plan(steps, reached, text)
+    put_record(read.list, read.steps, text)
 }
 
-// The listing of the record over the front of `text`; the rest of it stays. A
-// text of `LISTING_ROOM` bytes has room for every listing.
-pub fn list_record(bytes: &[u8], text: &mut [u8]) -> Listed
-    ensures { λ r. ⌜ (r ≡ Spec.listed (now (bytes .entry)) (now (text .entry))) × (now (text .exit) ≡ Spec.textAfter (now (bytes .entry)) (now (text .entry))) ⌝ }
-    ensures room { λ r. ⌜ (r .length ≤ length (now (text .entry))) × (Putting.listingRoom ≤ length (now (text .entry)) → r .answer ≡ 0) ⌝ }
+// The listing of an accepted record over the front of `text`, and its length as
+// the first of `size`; the rest of both stays. A text of `LISTING_ROOM` bytes has
+// room for every listing.
+pub fn list_record(bytes: &[u8], text: &mut [u8], size: &mut [u32]) -> u32
+    ensures { λ r. ⌜ (r ≡ Spec.listAnswer (now (bytes .entry)) (now (text .entry)) (now (size .entry))) × (now (text .exit) ≡ Spec.textAfter (now (bytes .entry)) (now (text .entry)) (now (size .entry))) × (now (size .exit) ≡ Spec.sizeAfter (now (bytes .entry)) (now (text .entry)) (now (size .entry))) ⌝ }
 {
+    let read = record::read_record(bytes);
+    if read.answer != 0 {
+        return read.answer;
+    }
     let mut page = [0u8; LISTING_ROOM];
-    let length = put_listing(bytes, &mut page);
-    if text.len() < length {
-        return Listed {
-            answer: REFUSED_LENGTH,
-            length: 0,
-        };
+    let length = put_record(read.list, read.steps, &mut page);
+    if !((length <= text.len()) & (1 <= size.len())) {
+        return REFUSED_LENGTH;
     }
     put_word(&page[..length], 0, text);
-    Listed { answer: 0, length }
+    size[0] = length as u32;
+    0
 }
 
 // What the program prints for the bytes of its input, over the front of `text`;
