@@ -16,6 +16,8 @@ const INPUT_ROOM: usize = 10_240;
 // What stands in a room where nothing was written.
 const MARK: u8 = 0xa5;
 
+const MARKED: u32 = 0xa5a5_a5a5;
+
 // Whether `bytes` were written at the start of a room, and nothing past them.
 fn holds(room: &[u8; LISTING_ROOM], bytes: &[u8]) -> bool {
     let n = bytes.len();
@@ -27,7 +29,39 @@ fn holds(room: &[u8; LISTING_ROOM], bytes: &[u8]) -> bool {
     check::same(&found[0..n], bytes) & check::same(&found[n..], &unwritten[n..])
 }
 
-// Whether the listing of a record is `text`.
+// Whether the listing of a record is refused with `answer` where the text has `n`
+// bytes and its length `m` numbers, and nothing is written.
+fn lists_nothing(bytes: &[u8], n: usize, m: usize, answer: u32) -> bool {
+    if LISTING_ROOM < n {
+        return false;
+    }
+    if 2 < m {
+        return false;
+    }
+    let mut room = [MARK; LISTING_ROOM];
+    let mut size = [MARKED; 2];
+    let found = listing::list_record(bytes, &mut room[0..n], &mut size[0..m]);
+    (found == answer) & (size[0] == MARKED) & (size[1] == MARKED) & holds(&room, b"")
+}
+
+// Whether `text` is the line of a refusal: `refused` and its number.
+fn is_refusal(answer: u32, text: &[u8]) -> bool {
+    let n = text.len();
+    if n < 8 {
+        return false;
+    }
+    let word = check::same(&text[0..8], b"refused ");
+    if answer < 10 {
+        return word & check::same(&text[8..n], &[b'0' + answer as u8, b'\n']);
+    }
+    if answer < 20 {
+        return word & check::same(&text[8..n], &[b'1', b'0' + (answer - 10) as u8, b'\n']);
+    }
+    false
+}
+
+// Whether the listing of a record is `text`; of a refused record that is the
+// refusal's line, and the call gives the number alone.
 fn lists(bytes: &[u8], text: &[u8]) -> bool {
     let n = text.len();
     if n == 0 {
@@ -36,12 +70,17 @@ fn lists(bytes: &[u8], text: &[u8]) -> bool {
     if LISTING_ROOM < n {
         return false;
     }
-    let mut small = [MARK; LISTING_ROOM];
-    let short = listing::list_record(bytes, &mut small[0..n - 1]);
-    let refused = (short.answer == REFUSED_LENGTH) & (short.length == 0) & holds(&small, b"");
+    let answer = record::read_record(bytes).answer;
+    if answer != 0 {
+        return lists_nothing(bytes, 0, 0, answer) & is_refusal(answer, text);
+    }
+    let short = lists_nothing(bytes, n - 1, 1, REFUSED_LENGTH);
+    let sizeless = lists_nothing(bytes, n, 0, REFUSED_LENGTH);
     let mut room = [MARK; LISTING_ROOM];
-    let listed = listing::list_record(bytes, &mut room);
-    refused & (listed.answer == 0) & (listed.length == n) & holds(&room, text)
+    let mut size = [MARKED; 2];
+    let listed = listing::list_record(bytes, &mut room, &mut size);
+    let sized = (size[0] == n as u32) & (size[1] == MARKED);
+    short & sizeless & (listed == 0) & sized & holds(&room, text)
 }
 
 // Whether a record is written back as it was read, or nothing is read of it.

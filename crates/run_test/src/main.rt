@@ -72,9 +72,9 @@ fn answer_of(
     work: &mut [i32],
 ) -> u32 {
     if rebuilds {
-        squeeze::squeeze_rebuild(bytes, source, filled, work)
+        squeeze::whole_runs::squeeze_rebuild(bytes, source, filled, work)
     } else {
-        squeeze::squeeze_write(bytes, source, filled, work)
+        squeeze::whole_runs::squeeze_write(bytes, source, filled, work)
     }
 }
 

@@ -17,7 +17,11 @@ fn rejoined_side(a: u16, r: u16) -> u16
     ensures { λ side. ⌜ side ≡ Spec.rejoinedSide a r ⌝ }
 {
     let sum = a as usize + r as usize;
-    if sum < MAX_SIDE { sum as u16 } else { MAX_SIDE as u16 }
+    if sum < MAX_SIDE {
+        sum as u16
+    } else {
+        MAX_SIDE as u16
+    }
 }
 
 // One less; 0 stays.

@@ -17,8 +17,8 @@ returns c =
     let f = start .pre in (
       f .stands .reached,
       sym
-      (back-still (a .step) (channels (a .list)) _ (sym (c .before .stays .ensures) ∙ c .if1 .taken) (f .inside)
-      (standing-long (a .touched) (a .picture .now) (a .pyramid .now) (f .stands) ∙ f .pyramid-long)),
+          (back-still (a .step) (channels (a .list)) _ (sym (c .before .stays .ensures) ∙ c .if1 .taken) (f .inside)
+          (standing-long (a .touched) (a .picture .now) (a .pyramid .now) (f .stands) ∙ f .pyramid-long)),
     )
 
 step-over-requires : tie.Need-step-over-requires

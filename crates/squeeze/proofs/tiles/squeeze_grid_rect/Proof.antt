@@ -3,8 +3,8 @@ use native.Mathlib.Omega.{arith}
 use borrow.Author.Needs.{needs}
 use lib.ListN.{length-set}
 use Rattle.squeeze.proofs.Rects.{rect-refused, rect-misfit, rect-done}
-use Rattle.squeeze.proofs.squeeze_grid_rect.Statement.{statement}
-use Rattle.squeeze.proofs.squeeze_grid_rect.Tie as tie
+use Rattle.squeeze.proofs.tiles.squeeze_grid_rect.Statement.{statement}
+use Rattle.squeeze.proofs.tiles.squeeze_grid_rect.Tie as tie
 
 get-grid-rect-requires : tie.Need-get-grid-rect-requires
 get-grid-rect-requires c κs = search needs

@@ -1,8 +1,8 @@
 -- `squeeze_write` meets its contract: the record is refused, or the call below answers (proofs/Ends.antt). Assumes nothing.
 use borrow.Author.Needs.{needs}
 use Rattle.squeeze.proofs.Ends.{write-refused, write-done}
-use Rattle.squeeze.proofs.squeeze_write.Statement.{statement}
-use Rattle.squeeze.proofs.squeeze_write.Tie as tie
+use Rattle.squeeze.proofs.whole_runs.squeeze_write.Statement.{statement}
+use Rattle.squeeze.proofs.whole_runs.squeeze_write.Tie as tie
 
 read-record-requires : tie.Need-read-record-requires
 read-record-requires c κs = search needs
