@@ -32,7 +32,7 @@ use Rattle.plan.specs.declared.Steps.{Steps}
 use Rattle.plan.specs.Steps.{steps}
 use Rattle.plan.specs.Plans as Plans
 use Rattle.plan.specs.Plans.{judgePlan, judgeSteps, steppedAll, meant, rewritten}
-use Rattle.plan.proofs.Runs.{none-refused}
+use Rattle.plan.proofs.Runs.{none-refused, steps-total}
 use Rattle.plan.proofs.Answers.{rewritten-accepted}
 use Rattle.plan.proofs.Judged.{plan-answer, meant-judged, reached-back}
 use Rattle.plan.proofs.AsStandard.{list-standard}
@@ -48,7 +48,9 @@ use Rattle.record.proofs.WrittenRead.{written-read, one-record}
 use Rattle.listing.specs.Listing as L
 use Rattle.listing.specs.Text as Text
 use Rattle.listing.specs.Text.{refusedWord, numbered}
-use Rattle.listing.specs.Listing.{listing, listed, textAfter, judgedBytes, printed}
+use Rattle.listing.specs.Listing.{listing, listAnswer, textAfter, sizeAfter, judgedBytes, printed}
+use Rattle.numbered.proofs.AsWritten as Numbered
+use Rattle.numbered.proofs.ReadBack as NumbersBack
 use Rattle.runs.specs.Runs.{isTaken, layout}
 use Rattle.runs.specs.Claim.{Fills, ExactlyOne}
 use Rattle.runs.proofs.Whole.{squeezed-fills, squeezed-rebuilds, rebuilt-fills, rebuilt-squeezes, exactly-one}
@@ -116,13 +118,9 @@ rectangle-keeps : (c : Channel) (output stored group gx gy : ℕ) (numbers : Lis
 unfolding Rect.numbersAfter
 rectangle-keeps c output stored group gx gy numbers h = rw (ne-eqb (Rect.answer c output stored group gx gy numbers) 0 h)
 
-listing-keeps : (bytes text : List ℕ) → (listed bytes text .answer ≡ 0 → ⊥) → (listed bytes text .length ≡ 0) × (textAfter bytes text ≡ text)
-unfolding L.listed L.textAfter
-listing-keeps bytes text = by (leb (length (listing bytes)) (length text)) refl
-  where
-    by : (b : Bool) → leb (length (listing bytes)) (length text) ≡ b → (listed bytes text .answer ≡ 0 → ⊥) → (listed bytes text .length ≡ 0) × (textAfter bytes text ≡ text)
-    by true e h = absurd (h (rw e))
-    by false e h = (rw e, rw e)
+listing-keeps : (bytes text size : List ℕ) → (listAnswer bytes text size ≡ 0 → ⊥) → (textAfter bytes text size ≡ text) × (sizeAfter bytes text size ≡ size)
+unfolding L.textAfter L.sizeAfter
+listing-keeps bytes text size h = let n = ne-eqb (listAnswer bytes text size) 0 h in (rw n, rw n)
 
 writer-keeps : (l : ChannelList) (s : Steps) (out : List ℕ) → (writtenOf l s out .answer ≡ 0 → ⊥) → writtenBytes l s out ≡ out
 unfolding Records.writtenOf Records.writtenBytes
@@ -133,7 +131,15 @@ writer-keeps l s out = by (eqb (writeAnswer l s out) 0) refl
     by false e h = rw e
 
 refusal-keeps : RefusalKeeps
-refusal-keeps = record { runs = run-keeps; tile = refused-after; rectangle = rectangle-keeps; listing = listing-keeps; record-writer = writer-keeps }
+refusal-keeps =
+    record {
+      runs = run-keeps;
+      tile = refused-after;
+      rectangle = rectangle-keeps;
+      listing = listing-keeps;
+      from-numbers = Numbered.refusal-keeps;
+      record-writer = writer-keeps;
+    }
 
 -- ---- a plan that is accepted
 module _ (l : ChannelList) (s : Steps) (z : rewritten l s .answer ≡ 0) where
@@ -144,9 +150,7 @@ module _ (l : ChannelList) (s : Steps) (z : rewritten l s .answer ≡ 0) where
   reached = reached-back l s judged (rewritten l s) refl
 
   reached-total : total (channels (rewritten l s .list)) ≡ total (channels l)
-  reached-total =
-      ap total (reached ∙ sym (layout-reached (meant (steps s) (channels l)) (channels l) (meant-judged l s judged)))
-      ∙ layout-total (meant (steps s) (channels l)) (channels l)
+  reached-total = ap total reached ∙ steps-total (meant (steps s) (channels l)) (channels l)
 
 -- ---- demand 2
 list-is-standard : ListIsStandard
@@ -257,7 +261,14 @@ demands =
       picture-is-standard = picture-is-standard;
       tile-is-standard = tile-is-standard;
       total-stays = record { laid-out = layout-total; rewrites = reached-total };
-      record-undone = record { read-written = read-written; written-read = written-read; one-record = one-record };
+      record-undone =
+          record {
+            read-written = read-written;
+            written-read = written-read;
+            one-record = one-record;
+            from-numbers = Numbered.as-written;
+            numbers-back = NumbersBack.read-back;
+          };
       program-rule = program-rule;
       one-pyramid = exactly-one;
       writer-gives-it = writer-gives-it;

@@ -1,6 +1,7 @@
 -- The demands, over the definitions that the C functions' contracts cite: `answer`, `pictureOf`, `pyramidOf` and `workOf` of crate squeeze for
--- `squeeze_rebuild` and `squeeze_write`, `answer` and `after` of crate tile for `squeeze_tile`, `numbersAfter` for `squeeze_grid_rect`, `listed` and
--- `textAfter` for `squeeze_listing`; and those of `rewrite`, `write_record` and `list_input`. Statements only; proofs/Demands.antt proves them.
+-- `squeeze_rebuild` and `squeeze_write`, `answer` and `after` of crate tile for `squeeze_tile`, `numbersAfter` for `squeeze_grid_rect`, `listAnswer`,
+-- `textAfter` and `sizeAfter` for `squeeze_listing`, those of crate numbered for `squeeze_record`; and those of `rewrite`, `write_record` and
+-- `list_input`. Statements only; proofs/Demands.antt proves them.
 use mathlib.Core.Path.{_≡_}
 use mathlib.Core.Bool.{true, false}
 use mathlib.Core.List.{List, [], _∷_, _++_}
@@ -29,7 +30,8 @@ use Rattle.plan.specs.StandardDefault.{StandardDefault, ChromaSidesAbove1, dots
 use Rattle.record.specs.Records.{readAnswer, channelsOf, stepsOf, reachedOf, writtenOf, writtenBytes}
 use Rattle.record.specs.Laws.{ReadWrittenLaw, WrittenReadLaw, OneRecord}
 use Rattle.listing.specs.Text.{refusedWord, numbered}
-use Rattle.listing.specs.Listing.{listing, listed, textAfter, judgedBytes, printed}
+use Rattle.listing.specs.Listing.{listing, listAnswer, textAfter, sizeAfter, judgedBytes, printed}
+use Rattle.numbered.specs.Laws as Numbered
 use Rattle.runs.specs.Runs.{layout}
 use Rattle.runs.specs.Unbounded.{RunInDomain, standardRun}
 use Rattle.runs.specs.Claim.{Fills, ExactlyOne}
@@ -44,7 +46,8 @@ pub record RefusalKeeps : Type 0 where
   pub tile : (c : Call) → (Tile.answer c ≡ 0 → ⊥) → Tile.after c ≡ c .out
   pub rectangle : (c : Channel) (output stored group gx gy : ℕ) (numbers : List ℕ) → (Rect.answer c output stored group gx gy numbers ≡ 0 → ⊥)
       → Rect.numbersAfter c output stored group gx gy numbers ≡ numbers
-  pub listing : (bytes text : List ℕ) → (listed bytes text .answer ≡ 0 → ⊥) → (listed bytes text .length ≡ 0) × (textAfter bytes text ≡ text)
+  pub listing : (bytes text size : List ℕ) → (listAnswer bytes text size ≡ 0 → ⊥) → (textAfter bytes text size ≡ text) × (sizeAfter bytes text size ≡ size)
+  pub from-numbers : Numbered.RefusalKeeps
   pub record-writer : (l : ChannelList) (s : Steps) (out : List ℕ) → (writtenOf l s out .answer ≡ 0 → ⊥) → writtenBytes l s out ≡ out
 
 -- ---- demand 2: "each equals the Rust's on the domain in 01, and on it equals ISO/IEC 18181-1"
@@ -75,11 +78,14 @@ pub record TotalStays : Type 0 where
   pub laid-out : (ss : List Step) (cs : List Channel) → total (layout ss cs) ≡ total cs
   pub rewrites : (l : ChannelList) (s : Steps) → rewritten l s .answer ≡ 0 → total (channels (rewritten l s .list)) ≡ total (channels l)
 
--- "Reading and writing undo each other", and a list and its steps have one record
+-- "Reading and writing undo each other", and a list and its steps have one record; a record from numbers is the writer's, and reads as the numbers
+-- say
 pub record RecordUndone : Type 0 where
   pub read-written : ReadWrittenLaw
   pub written-read : WrittenReadLaw
   pub one-record : OneRecord
+  pub from-numbers : Numbered.AsWrittenLaw
+  pub numbers-back : Numbered.ReadBack
 
 -- 01 FE 0F (hex) and 4,094 zeros
 abbrev pub field4097 : List ℕ

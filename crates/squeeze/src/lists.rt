@@ -1,6 +1,7 @@
 // Channel lists and their steps: a record's listing, and a record from numbers.
 ghost use mathlib.Core.Path.{_≡_};
 ghost use Rattle.listing.specs.Listing as Listing;
+ghost use Rattle.numbered.specs.Numbered as Numbered;
 
 // The listing of the record as text, over the front of `text`, and its length as
 // the first of `size`.
@@ -9,4 +10,18 @@ pub extern "C" fn squeeze_listing(bytes: &[u8], text: &mut [u8], size: &mut [u32
     ensures { λ r. ⌜ (r ≡ Listing.listAnswer (now (bytes .entry)) (now (text .entry)) (now (size .entry))) × (now (text .exit) ≡ Listing.textAfter (now (bytes .entry)) (now (text .entry)) (now (size .entry))) × (now (size .exit) ≡ Listing.sizeAfter (now (bytes .entry)) (now (text .entry)) (now (size .entry))) ⌝ }
 {
     listing::list_record(bytes, text, size)
+}
+
+// The record of a list and its steps given as numbers, over the front of `bytes`,
+// and its length as the first of `size`.
+#[no_mangle]
+pub extern "C" fn squeeze_record(
+    channels: &[u32],
+    steps: &[u32],
+    bytes: &mut [u8],
+    size: &mut [u32],
+) -> u32
+    ensures { λ r. ⌜ (r ≡ Numbered.answer (now (channels .entry)) (now (steps .entry)) (now (bytes .entry)) (now (size .entry))) × (now (bytes .exit) ≡ Numbered.recordAfter (now (channels .entry)) (now (steps .entry)) (now (bytes .entry)) (now (size .entry))) × (now (size .exit) ≡ Numbered.lengthAfter (now (channels .entry)) (now (steps .entry)) (now (bytes .entry)) (now (size .entry))) ⌝ }
+{
+    numbered::record_of_numbers(channels, steps, bytes, size)
 }

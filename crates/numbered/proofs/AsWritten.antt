@@ -1,0 +1,110 @@
+-- A record from numbers is what the record's writer makes of their flat arrays (specs/Laws.antt), and a refusal keeps both slices. Assumes nothing.
+use mathlib.Core.Path.{_≡_, refl, sym, ap, _∙_}
+use mathlib.Core.Bool.{Bool, true, false, cond, _&&_, and-true}
+use mathlib.Core.List.{List, [], _∷_, _++_}
+use Prim.Native.Nat.{ℕ, _+_, _/_, _%_, _<_, _≤_}
+use native.Mathlib.Omega.{arith}
+use lib.Dec.{eqb, leb}
+use lib.ListN.{length, drop}
+use borrow.Author.Tests.{eqb-true, eqb-false, eq-eqb, ne-eqb, le-leb}
+use Rattle.numbers.specs.Numbers.{refusedLength}
+use Rattle.list.specs.declared.Step.{Step}
+use Rattle.channel.specs.Channel.{sidesFit}
+use Rattle.list.specs.Tables.{table, padded, map, all}
+use Rattle.list.specs.Lists.{maxSteps}
+use Rattle.list.specs.Questions.{ask}
+use Rattle.list.proofs.Asking.{none-refused}
+use Rattle.plan.specs.declared.Steps.{Steps}
+use Rattle.plan.specs.Steps as S
+use Rattle.plan.specs.Steps.{flagsAllowed}
+use Rattle.record.specs.declared.Written.{Written}
+use Rattle.record.specs.Records as W
+use Rattle.record.specs.Records.{recordFor, writeAnswer, writtenOf, writtenBytes}
+use Rattle.record.proofs.Flags.{flags-read}
+use Rattle.record.proofs.Outcomes.{written-length, written-bytes}
+use Rattle.numbered.specs.Numbered.{channelNumbers, stepNumbers, groups, whole, channelsOf, flagsAt, firstAt, numberAt, stepAt, stepsOf, flagsOf, bytesOf, judgeNumbers, slicesAllowed, answer, recordAfter, lengthAfter}
+use Rattle.numbered.specs.Arrays.{listOf, planBy, planOf}
+use Rattle.numbered.specs.Laws.{AsWritten, AsWrittenLaw, PlanPacked, RefusalKeeps}
+use Rattle.numbered.proofs.Fields.{steps-count, flags-small}
+use Rattle.numbered.proofs.Tables.{table-same, map-table}
+use Rattle.numbered.proofs.Judged.{map-over, numbers-plan}
+use Rattle.numbered.proofs.Outcomes.{kept, filled, written-answer, bytes-kept, record-by}
+
+pub refusal-keeps : RefusalKeeps
+refusal-keeps ns ms bytes len z =
+    let k = kept ns ms bytes len (answer ns ms bytes len) refl z in
+    (sym (k .1), sym (k .2))
+
+module _ (ns ms bytes len : List ℕ) (sides : all sidesFit (channelsOf ns) ≡ true) (wholes : (whole channelNumbers ns && whole stepNumbers ms) ≡ true)
+    (room : 1 ≤ length len) where
+  record-is : judgeNumbers ns ms ≡ 0 → recordFor (listOf ns) (planOf ms) ≡ bytesOf ns ms
+  record-is z = record-by ns ms z (λ n. n) (map-over (stepsOf ms))
+
+  same-answer : writeAnswer (listOf ns) (planOf ms) bytes ≡ answer ns ms bytes len
+  unfolding W.writeAnswer answer slicesAllowed
+  same-answer =
+      rw (numbers-plan ns ms sides, wholes, le-leb 1 (length len) room, and-true (leb (length (bytesOf ns ms)) (length bytes)))
+      (go (eqb (judgeNumbers ns ms) 0) refl)
+    where
+      go : (t : Bool) → eqb (judgeNumbers ns ms) 0 ≡ t
+          → ask t (judgeNumbers ns ms) (ask (leb (length (recordFor (listOf ns) (planOf ms))) (length bytes)) refusedLength 0)
+          ≡ ask t (judgeNumbers ns ms) (ask (leb (length (bytesOf ns ms)) (length bytes)) refusedLength 0)
+      go true e = rw (record-is (eqb-true (judgeNumbers ns ms) 0 e))
+      go false e = refl
+
+  gave : writtenOf (listOf ns) (planOf ms) bytes .answer ≡ answer ns ms bytes len
+  gave = written-answer (listOf ns) (planOf ms) bytes ∙ same-answer
+
+  -- nothing is refused
+  module _ (z : answer ns ms bytes len ≡ 0) where
+    judged : judgeNumbers ns ms ≡ 0
+    unfolding answer
+    judged = none-refused (judgeNumbers ns ms) _ z .0
+
+    made : AsWritten ns ms bytes len
+    made =
+        let k = filled ns ms bytes len z in
+        let e = record-is judged in
+        record {
+          answered = sym gave;
+          written = sym (k .1) ∙ rw (← e) (sym (written-bytes (listOf ns) (planOf ms) bytes (same-answer ∙ z)));
+          told = sym (k .2) ∙ rw (gave ∙ z, written-length (listOf ns) (planOf ms) bytes (same-answer ∙ z), e);
+        }
+
+  refused : (answer ns ms bytes len ≡ 0 → ⊥) → AsWritten ns ms bytes len
+  refused n =
+      let k = refusal-keeps ns ms bytes len n in
+      record {
+        answered = sym gave;
+        written = k .0 ∙ sym (bytes-kept (listOf ns) (planOf ms) bytes (λ e. n (sym same-answer ∙ e)));
+        told = k .1 ∙ rw (gave, ne-eqb (answer ns ms bytes len) 0 n);
+      }
+
+  either : AsWritten ns ms bytes len
+  either = go (eqb (answer ns ms bytes len) 0) refl
+    where
+      go : (t : Bool) → eqb (answer ns ms bytes len) 0 ≡ t → AsWritten ns ms bytes len
+      go true e = made (eqb-true _ 0 e)
+      go false e = refused (eqb-false _ 0 e)
+
+pub as-written : AsWrittenLaw
+as-written ns ms bytes len sides n m room = either ns ms bytes len sides (rw (n, m)) room
+
+-- ---- the arrays of the steps
+flags-back : (ms : List ℕ) (k : ℕ) → flagsAt ms k < 4 → S.flagsOf (stepAt ms k) ≡ flagsAt ms k
+unfolding stepAt S.flagsOf
+flags-back ms k h = flags-read (0 ∷ 0 ∷ 0 ∷ flagsAt ms k ∷ []) h
+
+pub plan-packed : PlanPacked
+unfolding planBy stepAt stepsOf flagsOf S.packed
+plan-packed ms a =
+    let n = groups stepNumbers ms in
+    let t = map-table S.flagsOf (stepAt ms) 0 n ∙ table-same (λ j. S.flagsOf (stepAt ms j)) (flagsAt ms) 0 n (λ j l. flags-back ms j (flags-small ms j (omega arith) a)) in
+    let b = map-table (λ (s : Step). s .begin) (stepAt ms) 0 n in
+    let m = map-table (λ (s : Step). s .number) (stepAt ms) 0 n in
+    λ i. record {
+      count = sym (steps-count ms) i;
+      flags = padded maxSteps (sym t i);
+      begins = padded maxSteps (sym b i);
+      numbers = padded maxSteps (sym m i);
+    }

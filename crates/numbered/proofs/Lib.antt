@@ -1,0 +1,10 @@
+pub mod Cases
+pub mod Tested
+pub mod Fields
+pub mod Filling
+pub mod Tables
+pub mod Holding
+pub mod Judged
+pub mod Outcomes
+pub mod AsWritten
+pub mod ReadBack

@@ -1,0 +1,167 @@
+-- What a record from numbers comes to (`answer`, `recordAfter` and `lengthAfter` of specs/Numbered.antt), by the answers that the code has found on
+-- the way: questions 3 to 11, then 14, then what the record's writer gave. Assumes nothing.
+use mathlib.Core.Path.{_≡_, refl, sym, ap, _∙_}
+use mathlib.Core.Bool.{Bool, true, false, not, cond, _&&_, and-true, and-eq-true-iff}
+use mathlib.Core.List.{List, [], _∷_, _++_}
+use Prim.Native.Nat.{ℕ, _+_, _*_, _<_, _≤_}
+use native.Mathlib.Omega.{arith}
+use lib.Dec.{eqb, leb}
+use lib.ListN.{length, drop, set, length-append}
+use borrow.Author.Tests.{not-true, not-false, eqb-true, eq-eqb, ne-eqb, leb-true}
+use Rattle.numbers.specs.Numbers.{refusedLength}
+use Rattle.list.specs.declared.ChannelList.{ChannelList}
+use Rattle.list.specs.Tables.{map}
+use Rattle.list.specs.Lists.{maxChannels, maxSteps}
+use Rattle.list.specs.Questions.{ask}
+use Rattle.plan.specs.declared.Steps.{Steps}
+use Rattle.plan.specs.Plans.{judgePlan}
+use Rattle.record.specs.declared.Written.{Written}
+use Rattle.record.specs.Bytes as B
+use Rattle.record.specs.Bytes.{channelSize, stepSize, channelField, stepField, channelFields, stepFields}
+use Rattle.record.specs.Records as W
+use Rattle.record.specs.Records.{recordFor, writeAnswer, writtenOf, writtenBytes}
+use Rattle.record.proofs.Joined.{channel-size, step-size, joined-length}
+use Rattle.record.proofs.Outcomes.{written-length, written-bytes}
+use Rattle.numbered.specs.Numbered.{channelNumbers, stepNumbers, whole, channelsOf, stepsOf, bytesOf, judgeNumbers, slicesAllowed, answer, recordAfter, lengthAfter}
+use Rattle.numbered.specs.Arrays.{listOf, planBy, held}
+use Rattle.numbered.proofs.Fields.{channels-count, steps-count}
+use Rattle.numbered.proofs.Tables.{over, list-channels, plan-steps}
+use Rattle.numbered.proofs.Holding.{meant-same}
+use Rattle.numbered.proofs.Judged.{Accepted, accepted, numbers-held}
+
+-- ---- by the answer
+abbrev pub Results : List ℕ → List ℕ → List ℕ → List ℕ → ℕ → List ℕ → List ℕ → Type 0
+Results ns ms bytes len a out n = (a ≡ answer ns ms bytes len) × (out ≡ recordAfter ns ms bytes len) × (n ≡ lengthAfter ns ms bytes len)
+
+module _ (ns ms bytes len : List ℕ) where
+  pub kept : (a : ℕ) → answer ns ms bytes len ≡ a → (a ≡ 0 → ⊥) → Results ns ms bytes len a bytes len
+  unfolding recordAfter lengthAfter
+  kept a e z = (sym e, rw (e, ne-eqb a 0 z), rw (e, ne-eqb a 0 z))
+
+  pub filled : answer ns ms bytes len ≡ 0
+      → Results ns ms bytes len 0 (bytesOf ns ms ++ drop (length (bytesOf ns ms)) bytes) (length (bytesOf ns ms) ∷ drop 1 len)
+  unfolding recordAfter lengthAfter
+  filled e = (sym e, rw e, rw e)
+
+-- ---- the record's writer
+pub written-answer : (l : ChannelList) (s : Steps) (out : List ℕ) → writtenOf l s out .answer ≡ writeAnswer l s out
+unfolding W.writtenOf
+written-answer l s out = go (eqb (writeAnswer l s out) 0) refl
+  where
+    go : (t : Bool) → eqb (writeAnswer l s out) 0 ≡ t
+        → cond {A = Written} t (record { answer = 0; length = length (recordFor l s) }) (record { answer = writeAnswer l s out; length = 0 }) .answer ≡ writeAnswer l s out
+    go true e = sym (eqb-true (writeAnswer l s out) 0 e)
+    go false e = refl
+
+pub bytes-kept : (l : ChannelList) (s : Steps) (out : List ℕ) → (writeAnswer l s out ≡ 0 → ⊥) → writtenBytes l s out ≡ out
+unfolding W.writtenBytes
+bytes-kept l s out z = rw (ne-eqb (writeAnswer l s out) 0 z)
+
+first-set : (len : List ℕ) (n : ℕ) → 1 ≤ length len → set len 0 n ≡ n ∷ drop 1 len
+first-set [] n h = absurd (omega arith)
+first-set (x ∷ len) n h = refl
+
+-- numbers that questions 3 to 11 accept
+module _ (ns ms : List ℕ) (z : judgeNumbers ns ms ≡ 0) where
+  is : Accepted ns ms
+  is = accepted ns ms z
+
+  -- the arrays' record is that of the numbers, where f keeps the steps
+  pub record-by : (f : ℕ → ℕ) → map (over f) (stepsOf ms) ≡ stepsOf ms → recordFor (listOf ns) (planBy f ms) ≡ bytesOf ns ms
+  unfolding bytesOf
+  record-by f e = rw (list-channels ns (is .list .0), plan-steps f ms (is .steps .0), e)
+
+  record-is : recordFor (listOf ns) (planBy held ms) ≡ bytesOf ns ms
+  record-is = record-by held (meant-same (stepsOf ms) (channelsOf ns) (omega (arith, channels-count ns, is .list .0)) (is .meant))
+
+  bytes-few : length (bytesOf ns ms) ≤ channelSize * maxChannels + stepSize * maxSteps
+  unfolding bytesOf B.recordOf
+  bytes-few =
+      omega (
+        arith,
+        length-append (channelFields (channelsOf ns)) (stepFields (stepsOf ms)),
+        joined-length channelField channelSize channel-size (channelsOf ns),
+        joined-length stepField stepSize step-size (stepsOf ms),
+        channels-count ns,
+        steps-count ms,
+        is .list .0,
+        is .steps .0,
+      )
+
+  write-asked : (bytes : List ℕ) → writeAnswer (listOf ns) (planBy held ms) bytes ≡ ask (leb (length (bytesOf ns ms)) (length bytes)) refusedLength 0
+  unfolding W.writeAnswer
+  write-asked bytes = rw (numbers-held ns ms (is .counted) (is .list), z, record-is)
+
+-- ---- by the code's answers: a to questions 3 to 11
+module _ (ns ms bytes len : List ℕ) (a : ℕ) (ea : a ≡ judgeNumbers ns ms) where
+  pub numbers-refused : (a ≡ 0 → ⊥) → Results ns ms bytes len a bytes len
+  unfolding answer
+  numbers-refused n = kept ns ms bytes len a (rw (← ea, ne-eqb a 0 n)) n
+
+  module _ (z : a ≡ 0) where
+    asked : answer ns ms bytes len ≡ ask (slicesAllowed ns ms bytes len) refusedLength 0
+    unfolding answer
+    asked = rw (← ea, z)
+
+    -- no remainder, and a number for the length
+    abbrev slices : Bool
+    slices = (whole channelNumbers ns && whole stepNumbers ms) && leb 1 (length len)
+
+    pub slices-refused : not slices ≡ true → Results ns ms bytes len refusedLength bytes len
+    unfolding slicesAllowed
+    slices-refused h =
+        kept ns ms bytes len refusedLength
+        (asked ∙ go (whole channelNumbers ns && whole stepNumbers ms) (leb 1 (length len)) (leb (length (bytesOf ns ms)) (length bytes)) (not-true slices h))
+        (λ e. omega arith)
+      where
+        go : (x y b : Bool) → (x && y) ≡ false → ask (x && (b && y)) refusedLength 0 ≡ refusedLength
+        go false y b e = refl
+        go true y false e = refl
+        go true y true e = rw e
+
+    -- w and out are what the record's writer gave
+    module _ (h : not slices ≡ false) (l : ChannelList) (s : Steps) (el : l ≡ listOf ns) (es : s ≡ planBy held ms) (w : Written) (out : List ℕ)
+        (ew : w ≡ writtenOf l s bytes) (eo : out ≡ writtenBytes l s bytes) where
+      parts : ((whole channelNumbers ns && whole stepNumbers ms) ≡ true) × (leb 1 (length len) ≡ true)
+      parts = and-eq-true-iff (whole channelNumbers ns && whole stepNumbers ms) (leb 1 (length len)) .0 (not-false slices h)
+
+      gave : w ≡ writtenOf (listOf ns) (planBy held ms) bytes
+      gave = ew ∙ rw (el, es)
+
+      left : out ≡ writtenBytes (listOf ns) (planBy held ms) bytes
+      left = eo ∙ rw (el, es)
+
+      writer-answer : writeAnswer (listOf ns) (planBy held ms) bytes ≡ w .answer
+      writer-answer = sym (ap (λ (x : Written). x .answer) gave ∙ written-answer (listOf ns) (planBy held ms) bytes)
+
+      same-answer : answer ns ms bytes len ≡ w .answer
+      unfolding slicesAllowed
+      same-answer =
+          asked
+          ∙ rw (parts .0, parts .1, and-true (leb (length (bytesOf ns ms)) (length bytes))) (sym (write-asked ns ms (sym ea ∙ z) bytes) ∙ writer-answer)
+
+      pub writing-refused : (w .answer ≡ 0 → ⊥) → Results ns ms bytes len (w .answer) out len
+      writing-refused n =
+          let e : out ≡ bytes = left ∙ bytes-kept (listOf ns) (planBy held ms) bytes (λ q. n (sym writer-answer ∙ q)) in
+          rw e (kept ns ms bytes len (w .answer) same-answer n)
+
+      module _ (ok : w .answer ≡ 0) where
+        writes : writeAnswer (listOf ns) (planBy held ms) bytes ≡ 0
+        writes = writer-answer ∙ ok
+
+        length-is : w .length ≡ length (bytesOf ns ms)
+        length-is =
+            ap (λ (x : Written). x .length) (gave ∙ written-length (listOf ns) (planBy held ms) bytes writes)
+            ∙ ap length (record-is ns ms (sym ea ∙ z))
+
+        out-is : out ≡ bytesOf ns ms ++ drop (length (bytesOf ns ms)) bytes
+        out-is = left ∙ rw (← record-is ns ms (sym ea ∙ z)) (written-bytes (listOf ns) (planBy held ms) bytes writes)
+
+        pub length-room : 1 ≤ length len
+        length-room = leb-true 1 (length len) (parts .1)
+
+        pub length-few : w .length ≤ channelSize * maxChannels + stepSize * maxSteps
+        length-few = omega (arith, length-is, bytes-few ns ms (sym ea ∙ z))
+
+        pub writing-done : Results ns ms bytes len 0 out (set len 0 (w .length))
+        writing-done = rw (out-is, length-is, first-set len (length (bytesOf ns ms)) length-room) (filled ns ms bytes len (same-answer ∙ ok))

@@ -1,0 +1,73 @@
+use borrow.Author.Needs.{needs}
+use borrow.Author.Tests.{not-true, not-false}
+use Rattle.list.specs.Questions as Q
+use Rattle.numbered.proofs.Judged.{numbers-refused₃, numbers-misfit, numbers-fit, numbers-held}
+use Rattle.plan.proofs.Judged.{plan-answer}
+use mathlib.Core.Path.{_∙_}
+use Rattle.numbered.proofs.judge_numbers.Statement.{statement}
+use Rattle.numbered.proofs.judge_numbers.Tie as tie
+use Rattle.numbered.proofs.judge_numbers.Reads as reads
+use Rattle.numbered.proofs.judge_numbers.Lts as lts
+use Rattle.numbered.proofs.channels_fit.Reads as channels-fit-reads
+use Rattle.numbered.proofs.flags_allowed.Reads as flags-allowed-reads
+use Rattle.numbered.proofs.list_of.Reads as list-of-reads
+use Rattle.numbered.proofs.steps_of.Reads as steps-of-reads
+use Rattle.plan.proofs.rewrite.Reads as rewrite-reads
+
+returns : tie.Need-returns
+unfolding Q.countAllowed
+returns c = numbers-refused₃ _ _ (not-true _ (c .if1 .taken))
+
+channels-fit-requires : tie.Need-channels-fit-requires
+channels-fit-requires c κs = search needs
+
+flags-allowed-requires : tie.Need-flags-allowed-requires
+flags-allowed-requires c κs = search needs
+
+returns-2 : tie.Need-returns-2
+unfolding Q.countAllowed
+returns-2 c =
+    let f = c .before .before in
+    numbers-misfit _ _ (not-false _ (f .before .if1 .left)) _ _ (f .channels-fit .ensures) (c .before .flags-allowed .ensures) (c .if2 .taken)
+
+list-of-requires : tie.Need-list-of-requires
+unfolding Q.countAllowed
+list-of-requires c κs =
+    let f = c .before .before in
+    numbers-fit _ _ (not-false _ (f .before .if1 .left)) _ _ (f .channels-fit .ensures) (c .before .flags-allowed .ensures) (c .if2 .left) .0
+
+steps-of-requires : tie.Need-steps-of-requires
+unfolding Q.countAllowed
+steps-of-requires c κs =
+    let t = c .before in
+    let f = t .before .before in
+    numbers-fit _ _ (not-false _ (f .before .if1 .left)) _ _ (f .channels-fit .ensures) (t .before .flags-allowed .ensures) (t .if2 .left) .1
+
+rewrite-requires : tie.Need-rewrite-requires
+rewrite-requires c κs = search needs
+
+returns-3 : tie.Need-returns-3
+unfolding Q.countAllowed
+returns-3 c =
+    let s = c .before in
+    let l = s .before in
+    let t = l .before in
+    let f = t .before .before in
+    let a = f .before .before .before .before .args in
+    let e = not-false _ (f .before .if1 .left) in
+    plan-answer _ _ _ (c .rewrite .ensures)
+    ∙ rw (l .list-of .ensures, s .steps-of .ensures)
+    (numbers-held (a .channels .now) (a .steps .now) e (numbers-fit _ _ e _ _ (f .channels-fit .ensures) (t .before .flags-allowed .ensures) (t .if2 .left) .0))
+
+pub judge-numbers-spec : {M : Type 1} → statement M
+judge-numbers-spec =
+    tie.close
+    (tie.spec
+    returns
+    channels-fit-requires
+    flags-allowed-requires
+    returns-2
+    list-of-requires
+    steps-of-requires
+    rewrite-requires
+    returns-3)

@@ -1,0 +1,3 @@
+pub mod Numbered
+pub mod Arrays
+pub mod Laws
