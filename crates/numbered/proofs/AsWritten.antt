@@ -1,32 +1,29 @@
 -- A record from numbers is what the record's writer makes of their flat arrays (specs/Laws.antt), and a refusal keeps both slices. Assumes nothing.
-use mathlib.Core.Path.{_≡_, refl, sym, ap, _∙_}
-use mathlib.Core.Bool.{Bool, true, false, cond, _&&_, and-true}
-use mathlib.Core.List.{List, [], _∷_, _++_}
-use Prim.Native.Nat.{ℕ, _+_, _/_, _%_, _<_, _≤_}
+use mathlib.Core.Path.{_≡_, refl, sym, _∙_}
+use mathlib.Core.Bool.{Bool, true, false, _&&_, and-true}
+use mathlib.Core.List.{List, [], _∷_}
+use Prim.Native.Nat.{ℕ, _<_, _≤_}
 use native.Mathlib.Omega.{arith}
 use lib.Dec.{eqb, leb}
-use lib.ListN.{length, drop}
-use borrow.Author.Tests.{eqb-true, eqb-false, eq-eqb, ne-eqb, le-leb}
+use lib.ListN.{length}
+use borrow.Author.Tests.{eqb-true, eqb-false, ne-eqb, le-leb}
 use Rattle.numbers.specs.Numbers.{refusedLength}
 use Rattle.list.specs.declared.Step.{Step}
 use Rattle.channel.specs.Channel.{sidesFit}
-use Rattle.list.specs.Tables.{table, padded, map, all}
+use Rattle.list.specs.Tables.{padded, all}
 use Rattle.list.specs.Lists.{maxSteps}
 use Rattle.list.specs.Questions.{ask}
 use Rattle.list.proofs.Asking.{none-refused}
-use Rattle.plan.specs.declared.Steps.{Steps}
 use Rattle.plan.specs.Steps as S
-use Rattle.plan.specs.Steps.{flagsAllowed}
-use Rattle.record.specs.declared.Written.{Written}
 use Rattle.record.specs.Records as W
-use Rattle.record.specs.Records.{recordFor, writeAnswer, writtenOf, writtenBytes}
+use Rattle.record.specs.Records.{recordFor, writeAnswer, writtenOf}
 use Rattle.record.proofs.Flags.{flags-read}
 use Rattle.record.proofs.Outcomes.{written-length, written-bytes}
-use Rattle.numbered.specs.Numbered.{channelNumbers, stepNumbers, groups, whole, channelsOf, flagsAt, firstAt, numberAt, stepAt, stepsOf, flagsOf, bytesOf, judgeNumbers, slicesAllowed, answer, recordAfter, lengthAfter}
+use Rattle.numbered.specs.Numbered.{channelNumbers, stepNumbers, groups, whole, channelsOf, flagsAt, stepAt, stepsOf, flagsOf, bytesOf, judgeNumbers, slicesAllowed, answer}
 use Rattle.numbered.specs.Arrays.{listOf, planBy, planOf}
 use Rattle.numbered.specs.Laws.{AsWritten, AsWrittenLaw, PlanPacked, RefusalKeeps}
 use Rattle.numbered.proofs.Fields.{steps-count, flags-small}
-use Rattle.numbered.proofs.Tables.{table-same, map-table}
+use Rattle.numbered.proofs.Arrays.{table-same, map-table}
 use Rattle.numbered.proofs.Judged.{map-over, numbers-plan}
 use Rattle.numbered.proofs.Outcomes.{kept, filled, written-answer, bytes-kept, record-by}
 

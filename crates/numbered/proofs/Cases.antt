@@ -1,17 +1,20 @@
 -- The definitions on small cases, by computation: document 01's record, each number that no field could hold, and the order of the questions.
 -- Assumes nothing.
 use mathlib.Core.Path.{_≡_, refl}
+use mathlib.Core.Bool.{true}
 use mathlib.Core.List.{List, [], _∷_}
 use Prim.Native.Nat.{ℕ}
 use lib.ListN.{replicate}
 use Rattle.channel.specs.Channel as C
+use Rattle.list.specs.Tables.{all}
 use Rattle.list.specs.Lists as L
 use Rattle.list.specs.Questions as Q
 use Rattle.plan.specs.Steps as S
+use Rattle.plan.specs.Steps.{flagsAllowed}
 use Rattle.plan.specs.Default as D
 use Rattle.plan.specs.Plans as P
 use Rattle.record.specs.Bytes as B
-use Rattle.numbered.specs.Numbered.{channelAt, channelsOf, stepAt, stepsOf, flagsOf, bytesOf, judgeNumbers, slicesAllowed, answer, recordAfter, lengthAfter}
+use Rattle.numbered.specs.Numbered.{channelNumbers, stepNumbers, whole, channelAt, channelsOf, stepAt, stepsOf, flagsOf, bytesOf, judgeNumbers, slicesAllowed, answer, recordAfter, lengthAfter}
 
 -- a channel 20 by 9, a meta channel, and a step on the first channel, horizontal and in place
 abbrev plain : List ℕ
@@ -60,6 +63,16 @@ Cases =
     × (answer plain [] (replicate 8 7) (5 ∷ []) ≡ 12)
     × (answer plain [] (replicate 9 7) [] ≡ 12)
 
-pub cases : Cases
+-- the conditions of the laws (specs/Laws.antt) hold for a channel and a step
+abbrev pub Witness : Type 0
+Witness =
+    (all C.sidesFit (channelsOf plain) ≡ true)
+    × (whole channelNumbers plain ≡ true)
+    × (whole stepNumbers step ≡ true)
+    × (all flagsAllowed (flagsOf step) ≡ true)
+    × (asked plain step ≡ 0)
+
+pub cases : Cases × Witness
 unfolding channelAt channelsOf stepAt stepsOf flagsOf bytesOf judgeNumbers slicesAllowed answer recordAfter lengthAfter C.isMeta C.shiftsAllowed C.sidesFit C.samples L.raised L.stepped L.average L.residual Q.countAllowed Q.channelsAllowed Q.totalAllowed Q.judgeStep Q.rangeAllowed Q.kindsAlike Q.placeAllowed Q.hasSides Q.roomLeft Q.shiftsKept S.flagsAllowed S.flagsOf D.metaCount D.defaultSteps D.chroma D.allChannels D.rounds P.hasOther P.meant P.meantAllowed P.judgeMeant B.recordOf B.channelField B.stepField
-cases = (refl, refl, refl, refl, refl, refl, refl, refl, refl, refl, refl, refl, refl, refl, refl, refl, refl, refl, refl, refl, refl, refl, refl, refl)
+cases =
+    ((refl, refl, refl, refl, refl, refl, refl, refl, refl, refl, refl, refl, refl, refl, refl, refl, refl, refl, refl, refl, refl, refl, refl, refl), (refl, refl, refl, refl, refl))

@@ -34,15 +34,21 @@ pub record Fit (c : Channel) : Type 0 where
   pub hshift : c .hshift ≤ metaShift
   pub vshift : c .vshift ≤ metaShift
 
+pub sides-fit : (c : Channel) → sidesFit c ≡ true → (c .width ≤ maxSide) × (c .height ≤ maxSide)
+unfolding sidesFit
+sides-fit c h =
+    let b = and-eq-true-iff (leb (c .width) maxSide) (leb (c .height) maxSide) .0 h in
+    (leb-true (c .width) maxSide (b .0), leb-true (c .height) maxSide (b .1))
+
 pub channel-fit : (c : Channel) → fieldsFit c ≡ true → Fit c
-unfolding fieldsFit sidesFit
+unfolding fieldsFit
 channel-fit c h =
     let b = and-eq-true-iff (sidesFit c) (leb (c .hshift) metaShift && leb (c .vshift) metaShift) .0 h in
-    let sides = and-eq-true-iff (leb (c .width) maxSide) (leb (c .height) maxSide) .0 (b .0) in
+    let sides = sides-fit c (b .0) in
     let shifts = and-eq-true-iff (leb (c .hshift) metaShift) (leb (c .vshift) metaShift) .0 (b .1) in
     record {
-      width = leb-true _ _ (sides .0);
-      height = leb-true _ _ (sides .1);
+      width = sides .0;
+      height = sides .1;
       hshift = leb-true _ _ (shifts .0);
       vshift = leb-true _ _ (shifts .1);
     }

@@ -3,7 +3,7 @@ use mathlib.Core.Path.{_≡_, sym, _∙_}
 use mathlib.Core.List.{List}
 use Prim.Native.Nat.{ℕ, _+_, _<_, _≤_}
 use native.Mathlib.Omega.{arith}
-use lib.ListN.{length, set, replicate}
+use lib.ListN.{set, replicate}
 use Rattle.list.specs.Tables.{table}
 use Rattle.list.specs.Lists.{maxSteps}
 use Rattle.list.proofs.Tables.{table-length}

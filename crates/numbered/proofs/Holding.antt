@@ -1,9 +1,9 @@
 -- Steps held to 16 bits (`held` of specs/Arrays.antt) have the answers of the steps themselves: question 7 refuses a first channel or a number past 16
 -- bits in a list of at most 256 channels, held or not, and leaves no such list longer. Assumes nothing.
-use mathlib.Core.Path.{_≡_, refl, sym, ap, _∙_}
+use mathlib.Core.Path.{_≡_, refl, sym, _∙_}
 use mathlib.Core.Bool.{Bool, true, false, _&&_, and-false, and-eq-true-iff, true≢false}
 use mathlib.Core.List.{List, [], _∷_}
-use Prim.Native.Nat.{ℕ, _+_, _<_, _≤_, min}
+use Prim.Native.Nat.{ℕ, _+_, _<_, _≤_}
 use native.Mathlib.Omega.{arith}
 use lib.Dec.{eqb, leb}
 use lib.ListN.{length}
@@ -15,14 +15,13 @@ use Rattle.list.specs.Tables.{map}
 use Rattle.list.specs.Lists.{maxChannels, stepped}
 use Rattle.list.specs.Questions as Q
 use Rattle.list.specs.Questions.{judgeStep}
-use Rattle.list.specs.Accepted.{StepAccepted}
 use Rattle.list.proofs.Asking.{none-refused}
 use Rattle.list.proofs.Acceptance.{step-accepted}
 use Rattle.list.proofs.Entries.{stepped-length}
 use Rattle.plan.specs.Plans as P
 use Rattle.plan.specs.Plans.{judgeSteps, judgeMeant}
 use Rattle.numbered.specs.Arrays.{maxEntry, held}
-use Rattle.numbered.proofs.Tables.{over}
+use Rattle.numbered.proofs.Arrays.{over}
 
 abbrev heldStep : Step → Step
 heldStep s = over held s

@@ -5,28 +5,24 @@ use mathlib.Core.List.{List, [], _∷_}
 use Prim.Native.Nat.{ℕ, _≤_}
 use native.Mathlib.Omega.{arith}
 use lib.Dec.{eqb, leb}
-use lib.ListN.{length}
 use borrow.Author.Tests.{not-true, not-false, eqb-true, leb-true, le-leb}
 use Rattle.channel.specs.declared.Channel.{Channel}
 use Rattle.channel.specs.Channel as C
 use Rattle.channel.specs.Channel.{metaShift, maxShift, isMeta, shiftsAllowed, sidesFit}
 use Rattle.list.specs.declared.Step.{Step}
-use Rattle.list.specs.declared.Stepped.{Stepped}
 use Rattle.list.specs.Tables.{map, all}
-use Rattle.list.specs.Lists.{maxChannels, maxSteps, channels}
+use Rattle.list.specs.Lists.{maxChannels, maxSteps}
 use Rattle.list.specs.Questions as Q
 use Rattle.list.specs.Questions.{ask, countAllowed, metaFirst, channelsAllowed, totalAllowed}
 use Rattle.list.proofs.Asking.{passed}
-use Rattle.plan.specs.Steps as S
 use Rattle.plan.specs.Steps.{flagsAllowed}
 use Rattle.plan.specs.Plans as P
-use Rattle.plan.specs.Plans.{judgeMeant, judgePlan, rewritten}
-use Rattle.plan.proofs.Judged.{plan-answer}
+use Rattle.plan.specs.Plans.{judgeMeant, judgePlan}
 use Rattle.numbered.specs.Numbered.{channelNumbers, stepNumbers, groups, channelsOf, stepsOf, flagsOf, judgeNumbers}
 use Rattle.numbered.specs.Arrays.{fieldsFit, listOf, planBy, planOf, held}
 use Rattle.numbered.proofs.Fields.{channels-count}
-use Rattle.numbered.proofs.Tables.{over, list-count, list-channels, plan-count, plan-steps, plan-flags}
-use Rattle.numbered.proofs.Holding.{meant-held, meant-same}
+use Rattle.numbered.proofs.Arrays.{over, list-count, list-channels, plan-count, plan-steps, plan-flags}
+use Rattle.numbered.proofs.Holding.{meant-held}
 
 -- ---- fields: a channel whose sides fit and whose shifts are allowed has numbers that fit its fields
 shifts-small : (c : Channel) → shiftsAllowed c ≡ true → (c .hshift ≤ metaShift) × (c .vshift ≤ metaShift)

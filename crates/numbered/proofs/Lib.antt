@@ -2,7 +2,7 @@ pub mod Cases
 pub mod Tested
 pub mod Fields
 pub mod Filling
-pub mod Tables
+pub mod Arrays
 pub mod Holding
 pub mod Judged
 pub mod Outcomes

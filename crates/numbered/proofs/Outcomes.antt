@@ -3,18 +3,17 @@
 use mathlib.Core.Path.{_≡_, refl, sym, ap, _∙_}
 use mathlib.Core.Bool.{Bool, true, false, not, cond, _&&_, and-true, and-eq-true-iff}
 use mathlib.Core.List.{List, [], _∷_, _++_}
-use Prim.Native.Nat.{ℕ, _+_, _*_, _<_, _≤_}
+use Prim.Native.Nat.{ℕ, _+_, _*_, _≤_}
 use native.Mathlib.Omega.{arith}
 use lib.Dec.{eqb, leb}
 use lib.ListN.{length, drop, set, length-append}
-use borrow.Author.Tests.{not-true, not-false, eqb-true, eq-eqb, ne-eqb, leb-true}
+use borrow.Author.Tests.{not-true, not-false, eqb-true, ne-eqb, leb-true}
 use Rattle.numbers.specs.Numbers.{refusedLength}
 use Rattle.list.specs.declared.ChannelList.{ChannelList}
 use Rattle.list.specs.Tables.{map}
 use Rattle.list.specs.Lists.{maxChannels, maxSteps}
 use Rattle.list.specs.Questions.{ask}
 use Rattle.plan.specs.declared.Steps.{Steps}
-use Rattle.plan.specs.Plans.{judgePlan}
 use Rattle.record.specs.declared.Written.{Written}
 use Rattle.record.specs.Bytes as B
 use Rattle.record.specs.Bytes.{channelSize, stepSize, channelField, stepField, channelFields, stepFields}
@@ -25,7 +24,7 @@ use Rattle.record.proofs.Outcomes.{written-length, written-bytes}
 use Rattle.numbered.specs.Numbered.{channelNumbers, stepNumbers, whole, channelsOf, stepsOf, bytesOf, judgeNumbers, slicesAllowed, answer, recordAfter, lengthAfter}
 use Rattle.numbered.specs.Arrays.{listOf, planBy, held}
 use Rattle.numbered.proofs.Fields.{channels-count, steps-count}
-use Rattle.numbered.proofs.Tables.{over, list-channels, plan-steps}
+use Rattle.numbered.proofs.Arrays.{over, list-channels, plan-steps}
 use Rattle.numbered.proofs.Holding.{meant-same}
 use Rattle.numbered.proofs.Judged.{Accepted, accepted, numbers-held}
 
@@ -56,6 +55,17 @@ written-answer l s out = go (eqb (writeAnswer l s out) 0) refl
 pub bytes-kept : (l : ChannelList) (s : Steps) (out : List ℕ) → (writeAnswer l s out ≡ 0 → ⊥) → writtenBytes l s out ≡ out
 unfolding W.writtenBytes
 bytes-kept l s out z = rw (ne-eqb (writeAnswer l s out) 0 z)
+
+-- no remainder, and a number for the length
+abbrev slices : List ℕ → List ℕ → List ℕ → Bool
+slices ns ms len = (whole channelNumbers ns && whole stepNumbers ms) && leb 1 (length len)
+
+module _ (ns ms len : List ℕ) (h : not (slices ns ms len) ≡ false) where
+  parts : ((whole channelNumbers ns && whole stepNumbers ms) ≡ true) × (leb 1 (length len) ≡ true)
+  parts = and-eq-true-iff (whole channelNumbers ns && whole stepNumbers ms) (leb 1 (length len)) .0 (not-false (slices ns ms len) h)
+
+  pub length-room : 1 ≤ length len
+  length-room = leb-true 1 (length len) (parts .1)
 
 first-set : (len : List ℕ) (n : ℕ) → 1 ≤ length len → set len 0 n ≡ n ∷ drop 1 len
 first-set [] n h = absurd (omega arith)
@@ -103,15 +113,11 @@ module _ (ns ms bytes len : List ℕ) (a : ℕ) (ea : a ≡ judgeNumbers ns ms) 
     unfolding answer
     asked = rw (← ea, z)
 
-    -- no remainder, and a number for the length
-    abbrev slices : Bool
-    slices = (whole channelNumbers ns && whole stepNumbers ms) && leb 1 (length len)
-
-    pub slices-refused : not slices ≡ true → Results ns ms bytes len refusedLength bytes len
+    pub slices-refused : not (slices ns ms len) ≡ true → Results ns ms bytes len refusedLength bytes len
     unfolding slicesAllowed
     slices-refused h =
         kept ns ms bytes len refusedLength
-        (asked ∙ go (whole channelNumbers ns && whole stepNumbers ms) (leb 1 (length len)) (leb (length (bytesOf ns ms)) (length bytes)) (not-true slices h))
+        (asked ∙ go (whole channelNumbers ns && whole stepNumbers ms) (leb 1 (length len)) (leb (length (bytesOf ns ms)) (length bytes)) (not-true (slices ns ms len) h))
         (λ e. omega arith)
       where
         go : (x y b : Bool) → (x && y) ≡ false → ask (x && (b && y)) refusedLength 0 ≡ refusedLength
@@ -120,11 +126,8 @@ module _ (ns ms bytes len : List ℕ) (a : ℕ) (ea : a ≡ judgeNumbers ns ms) 
         go true y true e = rw e
 
     -- w and out are what the record's writer gave
-    module _ (h : not slices ≡ false) (l : ChannelList) (s : Steps) (el : l ≡ listOf ns) (es : s ≡ planBy held ms) (w : Written) (out : List ℕ)
+    module _ (h : not (slices ns ms len) ≡ false) (l : ChannelList) (s : Steps) (el : l ≡ listOf ns) (es : s ≡ planBy held ms) (w : Written) (out : List ℕ)
         (ew : w ≡ writtenOf l s bytes) (eo : out ≡ writtenBytes l s bytes) where
-      parts : ((whole channelNumbers ns && whole stepNumbers ms) ≡ true) × (leb 1 (length len) ≡ true)
-      parts = and-eq-true-iff (whole channelNumbers ns && whole stepNumbers ms) (leb 1 (length len)) .0 (not-false slices h)
-
       gave : w ≡ writtenOf (listOf ns) (planBy held ms) bytes
       gave = ew ∙ rw (el, es)
 
@@ -138,7 +141,7 @@ module _ (ns ms bytes len : List ℕ) (a : ℕ) (ea : a ≡ judgeNumbers ns ms) 
       unfolding slicesAllowed
       same-answer =
           asked
-          ∙ rw (parts .0, parts .1, and-true (leb (length (bytesOf ns ms)) (length bytes))) (sym (write-asked ns ms (sym ea ∙ z) bytes) ∙ writer-answer)
+          ∙ rw (parts ns ms len h .0, parts ns ms len h .1, and-true (leb (length (bytesOf ns ms)) (length bytes))) (sym (write-asked ns ms (sym ea ∙ z) bytes) ∙ writer-answer)
 
       pub writing-refused : (w .answer ≡ 0 → ⊥) → Results ns ms bytes len (w .answer) out len
       writing-refused n =
@@ -157,11 +160,8 @@ module _ (ns ms bytes len : List ℕ) (a : ℕ) (ea : a ≡ judgeNumbers ns ms) 
         out-is : out ≡ bytesOf ns ms ++ drop (length (bytesOf ns ms)) bytes
         out-is = left ∙ rw (← record-is ns ms (sym ea ∙ z)) (written-bytes (listOf ns) (planBy held ms) bytes writes)
 
-        pub length-room : 1 ≤ length len
-        length-room = leb-true 1 (length len) (parts .1)
-
         pub length-few : w .length ≤ channelSize * maxChannels + stepSize * maxSteps
         length-few = omega (arith, length-is, bytes-few ns ms (sym ea ∙ z))
 
         pub writing-done : Results ns ms bytes len 0 out (set len 0 (w .length))
-        writing-done = rw (out-is, length-is, first-set len (length (bytesOf ns ms)) length-room) (filled ns ms bytes len (same-answer ∙ ok))
+        writing-done = rw (out-is, length-is, first-set len (length (bytesOf ns ms)) (length-room ns ms len h)) (filled ns ms bytes len (same-answer ∙ ok))

@@ -1,14 +1,12 @@
 -- A record from numbers reads as the channels and the steps of the numbers (specs/Laws.antt): it is the record of their flat arrays, which crate
 -- record reads back. Assumes nothing.
-use mathlib.Core.Path.{_≡_, sym, ap, _∙_}
+use mathlib.Core.Path.{_≡_, ap, _∙_}
 use mathlib.Core.Bool.{true, and-eq-true-iff}
-use mathlib.Core.List.{List, [], _∷_, _++_}
+use mathlib.Core.List.{List, [], _∷_}
 use Prim.Native.Nat.{ℕ, zero, suc, _<_, _≤_}
 use native.Mathlib.Omega.{arith}
-use lib.Dec.{leb}
 use lib.ListN.{length, getD, take, drop}
 use lib.Seq.{take-append-seam}
-use borrow.Author.Tests.{leb-true}
 use Rattle.numbers.specs.Numbers.{maxSide}
 use Rattle.channel.specs.declared.Channel.{Channel}
 use Rattle.channel.specs.Channel.{sidesFit}
@@ -19,13 +17,14 @@ use Rattle.list.proofs.Asking.{none-refused}
 use Rattle.list.proofs.Tables.{table-length}
 use Rattle.list.proofs.Filled.{padded-at}
 use Rattle.plan.specs.Steps as S
-use Rattle.record.specs.Records.{readOf, recordFor}
+use Rattle.record.specs.Records.{readOf}
 use Rattle.record.specs.Laws.{SidesFit}
 use Rattle.record.proofs.ReadWritten.{read-written}
 use Rattle.numbered.specs.Numbered.{channelsOf, stepsOf, bytesOf, judgeNumbers, answer, recordAfter, lengthAfter}
 use Rattle.numbered.specs.Arrays.{listOf, planOf}
 use Rattle.numbered.specs.Laws.{ReadBack}
-use Rattle.numbered.proofs.Tables.{list-channels, plan-steps}
+use Rattle.numbered.proofs.Fields.{sides-fit}
+use Rattle.numbered.proofs.Arrays.{list-channels, plan-steps}
 use Rattle.numbered.proofs.Judged.{Accepted, accepted, map-over, numbers-plan}
 use Rattle.numbered.proofs.Outcomes.{filled, record-by}
 
@@ -46,14 +45,10 @@ module _ (f : Channel → ℕ) (fits : (c : Channel) → sidesFit c ≡ true →
       within (padded maxChannels (map f cs))
       (λ i l. rw (padded-at maxChannels (map f cs) i (omega (arith, table-length (λ k. getD (map f cs) k 0) 0 maxChannels))) (each-side cs a i))
 
-sides : (c : Channel) → sidesFit c ≡ true → (c .width ≤ maxSide) × (c .height ≤ maxSide)
-unfolding sidesFit
-sides c h = let b = and-eq-true-iff (leb (c .width) maxSide) (leb (c .height) maxSide) .0 h in (leb-true _ _ (b .0), leb-true _ _ (b .1))
-
 packed-sides : (cs : List Channel) → all sidesFit cs ≡ true → SidesFit (Lists.packed cs)
 unfolding Lists.packed
 packed-sides cs a k =
-    (array-sides (λ (c : Channel). c .width) (λ c h. sides c h .0) cs a k, array-sides (λ (c : Channel). c .height) (λ c h. sides c h .1) cs a k)
+    (array-sides (λ (c : Channel). c .width) (λ c h. sides-fit c h .0) cs a k, array-sides (λ (c : Channel). c .height) (λ c h. sides-fit c h .1) cs a k)
 
 -- ---- a record that was made
 module _ (ns ms bytes len : List ℕ) (z : answer ns ms bytes len ≡ 0) where

@@ -8,7 +8,6 @@ use lib.Dec.{leb}
 use Rattle.channel.specs.declared.Channel.{Channel}
 use Rattle.channel.specs.Channel.{metaShift, sidesFit}
 use Rattle.list.specs.declared.ChannelList.{ChannelList}
-use Rattle.list.specs.declared.Step.{Step}
 use Rattle.list.specs.Tables.{table, padded}
 use Rattle.list.specs.Lists as Lists
 use Rattle.list.specs.Lists.{maxSteps}

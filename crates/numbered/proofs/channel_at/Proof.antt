@@ -1,9 +1,9 @@
 -- `channel_at` meets its contract: each number fits its field. Assumes nothing.
 use mathlib.Core.Path.{refl}
 use native.Mathlib.Omega.{arith}
+use borrow.Author.Needs.{needs}
 use Rattle.numbered.specs.Numbered.{channelAt}
 use Rattle.numbered.proofs.Fields.{channel-fit}
-use borrow.Author.Needs.{needs}
 use Rattle.numbered.proofs.channel_at.Statement.{statement}
 use Rattle.numbered.proofs.channel_at.Tie as tie
 

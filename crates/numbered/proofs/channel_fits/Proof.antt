@@ -1,9 +1,9 @@
 -- `channel_fits` meets its contract: the four tests are those of `fieldsFit`. Assumes nothing.
 use mathlib.Core.Path.{refl}
+use borrow.Author.Needs.{needs}
 use Rattle.channel.specs.Channel.{sidesFit}
 use Rattle.numbered.specs.Numbered.{channelAt}
 use Rattle.numbered.specs.Arrays.{fieldsFit}
-use borrow.Author.Needs.{needs}
 use Rattle.numbered.proofs.channel_fits.Statement.{statement}
 use Rattle.numbered.proofs.channel_fits.Tie as tie
 

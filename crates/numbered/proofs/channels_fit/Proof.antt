@@ -1,11 +1,11 @@
 -- `channels_fit` meets its contract: the channels passed fit (proofs/Tested.antt). Assumes nothing.
 use Prim.Native.Nat.{_-_}
+use borrow.Author.Needs.{needs}
 use Rattle.list.proofs.Asking.{no, yes}
 use Rattle.numbered.specs.Numbered as N
 use Rattle.numbered.specs.Numbered.{channelNumbers, groups, channelAt}
 use Rattle.numbered.specs.Arrays.{fieldsFit}
 use Rattle.numbered.proofs.Tested.{Tested, tested-none, tested-more, tested-stop, tested-all}
-use borrow.Author.Needs.{needs}
 use Rattle.numbered.proofs.channels_fit.Statement.{statement}
 use Rattle.numbered.proofs.channels_fit.Tie as tie
 

@@ -1,12 +1,12 @@
 -- `flags_allowed` meets its contract: the flags passed are allowed (proofs/Tested.antt). Assumes nothing.
 use Prim.Native.Nat.{_-_}
 use borrow.Author.Tests.{lt-ltb, le-ltb}
+use borrow.Author.Needs.{needs}
 use Rattle.plan.specs.Steps as S
 use Rattle.plan.specs.Steps.{flagsAllowed}
 use Rattle.numbered.specs.Numbered as N
 use Rattle.numbered.specs.Numbered.{stepNumbers, groups, flagsAt}
 use Rattle.numbered.proofs.Tested.{Tested, tested-none, tested-more, tested-stop, tested-all}
-use borrow.Author.Needs.{needs}
 use Rattle.numbered.proofs.flags_allowed.Statement.{statement}
 use Rattle.numbered.proofs.flags_allowed.Tie as tie
 

@@ -1,18 +1,13 @@
+-- `judge_numbers` meets its contract: question 3 of the counts, 4 of what no field could hold, and the others as crate plan answers them for the
+-- arrays (proofs/Judged.antt). Assumes nothing.
+use mathlib.Core.Path.{_∙_}
 use borrow.Author.Needs.{needs}
 use borrow.Author.Tests.{not-true, not-false}
 use Rattle.list.specs.Questions as Q
-use Rattle.numbered.proofs.Judged.{numbers-refused₃, numbers-misfit, numbers-fit, numbers-held}
 use Rattle.plan.proofs.Judged.{plan-answer}
-use mathlib.Core.Path.{_∙_}
+use Rattle.numbered.proofs.Judged.{numbers-refused₃, numbers-misfit, numbers-fit, numbers-held}
 use Rattle.numbered.proofs.judge_numbers.Statement.{statement}
 use Rattle.numbered.proofs.judge_numbers.Tie as tie
-use Rattle.numbered.proofs.judge_numbers.Reads as reads
-use Rattle.numbered.proofs.judge_numbers.Lts as lts
-use Rattle.numbered.proofs.channels_fit.Reads as channels-fit-reads
-use Rattle.numbered.proofs.flags_allowed.Reads as flags-allowed-reads
-use Rattle.numbered.proofs.list_of.Reads as list-of-reads
-use Rattle.numbered.proofs.steps_of.Reads as steps-of-reads
-use Rattle.plan.proofs.rewrite.Reads as rewrite-reads
 
 returns : tie.Need-returns
 unfolding Q.countAllowed

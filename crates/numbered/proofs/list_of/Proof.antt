@@ -2,11 +2,11 @@
 use mathlib.Core.Path.{sym, _∙_}
 use Prim.Native.Nat.{_-_, _≤_}
 use native.Mathlib.Omega.{arith}
+use borrow.Author.Needs.{needs}
 use Rattle.list.specs.Lists.{maxChannels}
 use Rattle.list.proofs.Filled.{Filling, filling-none, filling-more, filling-all}
 use Rattle.numbered.specs.Numbered.{channelsOf}
 use Rattle.numbered.proofs.Fields.{channels-count, channel-is, channel-fits}
-use borrow.Author.Needs.{needs}
 use Rattle.numbered.proofs.list_of.Statement.{statement}
 use Rattle.numbered.proofs.list_of.Tie as tie
 

@@ -1,3 +1,5 @@
+-- `record_of_numbers` meets its contract: the answer to questions 3 to 11, then 14, then what the record's writer gave (proofs/Outcomes.antt).
+-- Assumes nothing.
 use mathlib.Core.Path.{sym, _∙_}
 use native.Mathlib.Omega.{arith}
 use borrow.Author.Needs.{needs}
@@ -5,12 +7,6 @@ use Rattle.numbered.proofs.Judged.{accepted}
 use Rattle.numbered.proofs.Outcomes.{numbers-refused, slices-refused, writing-refused, writing-done, length-room, length-few}
 use Rattle.numbered.proofs.record_of_numbers.Statement.{statement}
 use Rattle.numbered.proofs.record_of_numbers.Tie as tie
-use Rattle.numbered.proofs.record_of_numbers.Reads as reads
-use Rattle.numbered.proofs.record_of_numbers.Lts as lts
-use Rattle.numbered.proofs.judge_numbers.Reads as judge-numbers-reads
-use Rattle.numbered.proofs.list_of.Reads as list-of-reads
-use Rattle.numbered.proofs.steps_of.Reads as steps-of-reads
-use Rattle.record.proofs.write_record.Reads as write-record-reads
 
 judge-numbers-requires : tie.Need-judge-numbers-requires
 judge-numbers-requires c κs = search needs
@@ -62,13 +58,9 @@ cast-length c =
 slice-write-length : tie.Need-slice-write-length
 slice-write-length c =
     let w = c .before .before .before .before .before in
-    let l = w .before .before .before in
-    let t = l .before in
-    let j = t .before .before in
-    let a = j .before .before .before .before .before .args in
-    let room = length-room (a .channels .now) (a .steps .now) (a .«record» .now) (a .length .now) _ (j .judge-numbers .ensures) (t .before .if1 .left) (t .if2 .left)
-    _ _ (l .list-of .ensures) (w .before .before .steps-of .ensures) _ _ (w .write-record .ensures .0) (w .write-record .ensures .1) (c .before .if3 .left) in
-    omega arith
+    let t = w .before .before .before .before in
+    let a = t .before .before .before .before .before .before .before .args in
+    omega (arith, length-room (a .channels .now) (a .steps .now) (a .length .now) (t .if2 .left))
 
 same-length-2 : tie.Need-same-length-2
 same-length-2 c = search needs

@@ -2,11 +2,10 @@
 -- Assumes nothing.
 use Prim.Native.Nat.{_-_, _≤_}
 use native.Mathlib.Omega.{arith}
-use Rattle.numbered.specs.Numbered.{stepNumbers, groups}
+use borrow.Author.Needs.{needs}
 use Rattle.numbered.specs.Arrays.{held}
 use Rattle.numbered.proofs.Fields.{flags-small}
 use Rattle.numbered.proofs.Filling.{Filling, filling-none, filling-more, filling-all}
-use borrow.Author.Needs.{needs}
 use Rattle.numbered.proofs.steps_of.Statement.{statement}
 use Rattle.numbered.proofs.steps_of.Tie as tie
 

@@ -1,9 +1,9 @@
 -- What the numbers' flat arrays hold (specs/Arrays.antt): the list's channels, and the steps with their flags. Assumes nothing.
 use mathlib.Core.Path.{_≡_, refl, ap, _∙_}
-use mathlib.Core.List.{List, [], _∷_}
+use mathlib.Core.List.{List, _∷_}
 use Prim.Native.Nat.{ℕ, zero, suc, _+_, _<_, _≤_, min}
 use native.Mathlib.Omega.{arith}
-use lib.ListN.{length, getD}
+use lib.ListN.{getD}
 use Rattle.list.specs.declared.Step.{Step}
 use Rattle.list.specs.Tables.{table, padded, map}
 use Rattle.list.specs.Lists as Lists
