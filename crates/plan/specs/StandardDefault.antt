@@ -64,7 +64,7 @@ pub data StandardDefault (cs : List Channel) (ss : List Step) : Type 0 where
 abbrev pub ChromaSidesAbove1 : List Channel → Type 0
 ChromaSidesAbove1 cs = Chroma cs → (1 < channelOf (others cs) 0 .width) × (1 < channelOf (others cs) 0 .height)
 
--- the smallest list on which the two differ: three channels 1 by 1
+-- the smallest list with samples on which the two differ: three channels 1 by 1
 abbrev pub dots : List Channel
 dots = dot ∷ dot ∷ dot ∷ []
   where
