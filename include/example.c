@@ -15,23 +15,25 @@
 int main(void)
 {
     /* One channel, 20 by 9, shifts 0, and no steps: the default plan. */
-    static const uint8_t record[] = {1, 6, 0, WIDTH, 0, HEIGHT, 0, 0, 0};
+    static const uint32_t channels[] = {WIDTH, HEIGHT, 0, 0};
+    static uint8_t record[2816], text[8192];
     static int32_t picture[SAMPLES], pyramid[SAMPLES], back[SAMPLES], work[SAMPLES];
-    static uint8_t text[8192];
-    uint32_t answer;
-    size_t length;
+    uint32_t answer, bytes, length;
     int i;
 
     for (i = 0; i < SAMPLES; i++)
         picture[i] = i % WIDTH * 3 + i / WIDTH * 5 + i % 7;
 
-    length = squeeze_listing(record, sizeof record, text, sizeof text);
-    fwrite(text, 1, length, stdout);
-
-    answer = squeeze_write(record, sizeof record, picture, SAMPLES, pyramid, SAMPLES,
-                           work, SAMPLES);
+    answer = squeeze_record(channels, 4, NULL, 0, record, sizeof record, &bytes, 1);
     if (answer == 0)
-        answer = squeeze_rebuild(record, sizeof record, pyramid, SAMPLES, back, SAMPLES,
+        answer = squeeze_listing(record, bytes, text, sizeof text, &length, 1);
+    if (answer == 0) {
+        fwrite(text, 1, length, stdout);
+        answer = squeeze_write(record, bytes, picture, SAMPLES, pyramid, SAMPLES,
+                               work, SAMPLES);
+    }
+    if (answer == 0)
+        answer = squeeze_rebuild(record, bytes, pyramid, SAMPLES, back, SAMPLES,
                                  work, SAMPLES);
     if (answer != 0) {
         printf("refused %u\n", (unsigned)answer);

@@ -1,20 +1,22 @@
 /* Squeeze of JPEG XL's Modular mode: the functions that libsqueeze.a exports.
 
    A slice is a pointer and a number of elements. Slices of one call must not
-   overlap, and a pointer must be aligned and not null, for an empty slice too.
-   No other condition is asked of any argument. Every function but
-   squeeze_listing answers 0, or the number of a refusal; a refused call changes
-   nothing.
+   overlap, and a pointer must be aligned and lead to that many elements; for an
+   empty slice it may be null. No other condition is asked of any argument. Every
+   function answers 0, or the number of a refusal; a refused call changes
+   nothing. No call takes memory but its stack, at most 64 KiB.
 
    Refusals:  1 a field's head or length runs past the record
               2 unknown tag, wrong length, or a channel after a step
               3 no channel, over 256 channels or over 64 steps
-              4 shifts, meta channels not first, or unknown flag bits
+              4 shifts, meta channels not first, unknown flag bits, or a side
+                above 65,535
               5 over 16,777,216 samples
               6 a step's range      7 its kinds     8 meta and not in place
               9 an empty side      10 too many channels, or a shift above 30
              11 a default plan without a channel that is not meta
-             12 a slice of another length
+             12 a slice of another length than it needs, or too short for what
+                is written to it
              13 sizes or lines of a tile call that don't fit
              14 a rectangle's kinds or group dimension */
 #ifndef SQUEEZE_H
@@ -57,11 +59,27 @@ uint32_t squeeze_tile(uint32_t horizontal,
                       int32_t *out, size_t out_len);
 
 /* The listing of a record as text: the plan's steps, the channels that it
-   leaves and how many of them are coarse, or "refused" and the number. Gives the
-   listing's length in bytes, over the front of `text`; or 0, and writes nothing,
-   where `text` is shorter. 8,192 bytes hold every listing. */
-size_t squeeze_listing(const uint8_t *record, size_t record_len,
-                       uint8_t *text, size_t text_len);
+   leaves and how many of them are coarse. The text goes over the front of
+   `text` (8,192 bytes hold every listing), its length in bytes into length[0];
+   what is past them stays. A text too short or no length: refused with 12. */
+uint32_t squeeze_listing(const uint8_t *record, size_t record_len,
+                         uint8_t *text, size_t text_len,
+                         uint32_t *length, size_t length_len);
+
+/* Writes a record. channels: four numbers each, width, height, horizontal and
+   vertical shift, both shifts 255 for a meta channel. steps: three numbers each,
+   flags (1 horizontal, 2 in place, or their sum), first channel, number of
+   channels; no steps mean the default plan. The bytes go over the front of
+   `record` (2,816 hold every record, 9 a channel and 8 a step), their number
+   into length[0]; what is past them stays. The whole plan is judged, as a call
+   with the record would judge it. A number too large for the record's field is
+   refused: a side of 65,536 with 4, shifts and flags above 255 with 4, a step's
+   first channel or number of 65,536 with 6. A number left over after the last
+   whole channel or step, a record too short or no length: refused with 12. */
+uint32_t squeeze_record(const uint32_t *channels, size_t channels_len,
+                        const uint32_t *steps, size_t steps_len,
+                        uint8_t *record, size_t record_len,
+                        uint32_t *length, size_t length_len);
 
 /* The rectangle of a channel at grid position (gx, gy). Kinds: 0 none, 1 LF,
    2 HF. group: 128, 256, 512 or 1,024. rect: four numbers, x, y, width, height;

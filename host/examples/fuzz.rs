@@ -2,8 +2,8 @@
 //! function and compares with the model.
 //!
 //! `cargo run --release --example fuzz -- [COUNT [SEED]]`; 1,000,000 calls with
-//! seed 1 if not given. Exit status 1 if anything differs or a refusal was never
-//! met.
+//! seed 1 if not given. Exit status 1 if anything differs or a function never gave
+//! an answer that it can give.
 
 use squeeze_compare::fuzz::{run, Report, ANSWERS, FUNCTIONS};
 
@@ -41,7 +41,7 @@ fn print(report: &Report, count: u64, seed: u64) {
         print!(" {answer:>7}");
     }
     println!();
-    for (name, row) in FUNCTIONS.iter().zip(&report.met) {
+    for ((name, _), row) in FUNCTIONS.iter().zip(&report.met) {
         print!("{name:<10}");
         for times in row {
             print!(" {times:>7}");

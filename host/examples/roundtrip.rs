@@ -2,17 +2,15 @@
 //!
 //! `cargo run --release --example roundtrip`
 
-use squeeze::{layout, rebuild_picture, write_pyramid, Record, Refusal};
+use squeeze::{layout, rebuild_picture, write_pyramid, Channel, Record, Refusal};
 
 const WIDTH: usize = 120;
 const HEIGHT: usize = 80;
 
 fn main() -> Result<(), Refusal> {
     // Three channels of one size, and no steps: the default plan.
-    let mut record = Record::new();
-    for _ in 0..3 {
-        record = record.channel(WIDTH as u16, HEIGHT as u16);
-    }
+    let channel = Channel::new(WIDTH as u16, HEIGHT as u16);
+    let record = Record::from_parts(&[channel; 3], &[])?;
     let picture = photograph();
 
     // The terminal squeezes; the pyramid goes up from its front.

@@ -1,6 +1,7 @@
-//! The five functions of `include/squeeze.h`. Each asks for aligned pointers
-//! that are not null and for slices that don't overlap; nothing else. Public for
-//! the comparisons, which pass what the safe functions can't express.
+//! The six functions of `include/squeeze.h`. Each asks for aligned pointers and
+//! for slices that don't overlap, an empty slice for any pointer, null among
+//! them; nothing else. Each answers 0 or the number of a refusal. Public for the
+//! comparisons, which pass what the safe functions can't express.
 
 extern "C" {
     pub fn squeeze_rebuild(
@@ -50,7 +51,20 @@ extern "C" {
         record_len: usize,
         text: *mut u8,
         text_len: usize,
-    ) -> usize;
+        length: *mut u32,
+        length_len: usize,
+    ) -> u32;
+
+    pub fn squeeze_record(
+        channels: *const u32,
+        channels_len: usize,
+        steps: *const u32,
+        steps_len: usize,
+        record: *mut u8,
+        record_len: usize,
+        length: *mut u32,
+        length_len: usize,
+    ) -> u32;
 
     pub fn squeeze_grid_rect(
         width: u16,

@@ -12,6 +12,24 @@ pub struct Channel {
 }
 
 impl Channel {
+    /// A channel without shifts.
+    pub fn new(width: u16, height: u16) -> Channel {
+        Channel {
+            width,
+            height,
+            shifts: Some((0, 0)),
+        }
+    }
+
+    /// A meta channel.
+    pub fn meta(width: u16, height: u16) -> Channel {
+        Channel {
+            width,
+            height,
+            shifts: None,
+        }
+    }
+
     /// How many samples the channel has.
     pub fn samples(&self) -> usize {
         usize::from(self.width) * usize::from(self.height)
@@ -58,26 +76,22 @@ impl Layout {
     }
 }
 
-/// A listing taken apart: the layout, or the number after `refused`. Nothing if
-/// the text isn't a listing.
-pub(crate) fn parse(text: &str) -> Option<Result<Layout, u32>> {
+/// A listing taken apart. Nothing if the text isn't a listing.
+pub(crate) fn parse(text: &str) -> Option<Layout> {
     let mut lines = text.lines();
-    let head = lines.next()?;
-    if let Some(number) = head.strip_prefix("refused ") {
-        return Some(Err(number.parse().ok()?));
-    }
-    let steps = read_lines(&mut lines, count(head, "steps ")?, step)?;
+    let number = count(lines.next()?, "steps ")?;
+    let steps = read_lines(&mut lines, number, step)?;
     let number = count(lines.next()?, "channels ")?;
     let channels = read_lines(&mut lines, number, channel)?;
     let coarse = count(lines.next()?, "coarse ")?;
     if lines.next().is_some() || coarse > channels.len() {
         return None;
     }
-    Some(Ok(Layout {
+    Some(Layout {
         steps,
         channels,
         coarse,
-    }))
+    })
 }
 
 fn count(line: &str, word: &str) -> Option<usize> {
@@ -136,7 +150,7 @@ mod tests {
     fn texts_that_are_no_listing() {
         let cases = [
             ("", "no head line"),
-            ("refused", "no number"),
+            ("refused 3\n", "a refusal is the answer, not a text"),
             ("steps 1\nchannels 0\ncoarse 0\n", "a step is missing"),
             ("steps 0\nchannels 1\n5 5 0\ncoarse 0\n", "three words"),
             ("steps 0\nchannels 1\n5 5 m 0\ncoarse 0\n", "half meta"),
@@ -158,7 +172,7 @@ mod tests {
     #[test]
     fn steps_channels_and_meta() {
         let text = "steps 2\nh out 1 2\nv in 0 1\nchannels 2\n5 6 m m\n7 8 1 30\ncoarse 2\n";
-        let layout = parse(text).unwrap().unwrap();
+        let layout = parse(text).unwrap();
         assert!(layout.steps[0].horizontal && !layout.steps[0].in_place);
         assert_eq!((layout.steps[0].first, layout.steps[0].number), (1, 2));
         assert!(!layout.steps[1].horizontal && layout.steps[1].in_place);

@@ -11,7 +11,7 @@
 //!
 //! fn main() -> Result<(), Refusal> {
 //!     // One channel, 20 by 9, and no steps: the default plan.
-//!     let record = Record::new().channel(20, 9);
+//!     let record = Record::new().channel(20, 9).checked()?;
 //!     let picture: Vec<i32> = (0..180).map(|i| i % 20 + 3 * (i / 20)).collect();
 //!
 //!     let pyramid = write_pyramid(record.bytes(), &picture)?;
@@ -21,8 +21,12 @@
 //! }
 //! ```
 //!
+//! [`Record::checked`] has the core's own writer make the record, so that a plan
+//! that can't be run is refused where it is made.
+//!
 //! The core takes any record, any sizes and any slices; what it can't use it
-//! refuses with a reason, and then the slices keep their contents.
+//! refuses with a reason, and then the slices keep their contents. No call needs
+//! more than 64 KiB of stack.
 
 #![warn(missing_docs)]
 
@@ -34,7 +38,7 @@ mod refusal;
 mod tile;
 
 pub use layout::{Channel, Layout, Step};
-pub use record::Record;
+pub use record::{write_record, Record, RECORD_ROOM};
 pub use refusal::Refusal;
 pub use tile::{grid_rect, tile, GridQuery, Kind, Rect, Size, TileSizes};
 
@@ -105,41 +109,40 @@ pub fn write_pyramid(record: &[u8], picture: &[i32]) -> Result<Vec<i32>, Refusal
 }
 
 /// The listing of a record: the plan's steps, the channels that it leaves and
-/// how many of them are coarse, or one line, `refused` and the number.
-pub fn listing(record: &[u8]) -> String {
+/// how many of them are coarse.
+pub fn listing(record: &[u8]) -> Result<String, Refusal> {
     let mut text = vec![0u8; LISTING_ROOM];
+    let mut length = [0];
     // SAFETY: as in `rebuild`.
-    let length = unsafe {
-        ffi::squeeze_listing(record.as_ptr(), record.len(), text.as_mut_ptr(), text.len())
-    };
-    assert!(
-        0 < length && length <= LISTING_ROOM,
-        "listing of {length} bytes"
-    );
+    answer(unsafe {
+        ffi::squeeze_listing(
+            record.as_ptr(),
+            record.len(),
+            text.as_mut_ptr(),
+            text.len(),
+            length.as_mut_ptr(),
+            length.len(),
+        )
+    })?;
+    let length = length[0] as usize;
+    assert!(length <= LISTING_ROOM, "a listing of {length} bytes");
     text.truncate(length);
-    String::from_utf8(text).expect("a listing is plain text")
+    Ok(String::from_utf8(text).expect("a listing is plain text"))
 }
 
 /// The listing of a record, taken apart.
 pub fn layout(record: &[u8]) -> Result<Layout, Refusal> {
-    let text = listing(record);
+    let text = listing(record)?;
     match layout::parse(&text) {
-        Some(Ok(layout)) => Ok(layout),
-        Some(Err(number)) => Err(refusal(number)),
+        Some(layout) => Ok(layout),
         None => panic!("the core gave this listing: {text:?}"),
     }
 }
 
 fn answer(number: u32) -> Result<(), Refusal> {
-    match number {
-        0 => Ok(()),
-        _ => Err(refusal(number)),
-    }
-}
-
-fn refusal(number: u32) -> Refusal {
     match Refusal::from_number(number) {
-        Some(refusal) => refusal,
+        _ if number == 0 => Ok(()),
+        Some(refusal) => Err(refusal),
         None => panic!("the core answered {number}, which is no refusal"),
     }
 }

@@ -1,69 +1,190 @@
-//! A record's bytes, field by field.
+//! Records: checked by the core's own writer, or only encoded.
 
 use crate::layout::{Channel, Step};
+use crate::{answer, ffi, Refusal};
 
-/// Builds the bytes of a record. It only encodes: fields stand in the order of
-/// the calls, any numbers are taken, and the core judges them.
-///
-/// ```
-/// let record = squeeze::Record::new().channel(20, 9);
-/// assert_eq!(record.bytes(), [1, 6, 0, 20, 0, 9, 0, 0, 0]);
-/// ```
-#[derive(Clone, Debug, Default, PartialEq, Eq)]
-pub struct Record {
-    bytes: Vec<u8>,
-}
+/// The bytes that hold every record that the core accepts: 256 channels, then
+/// 64 steps.
+pub const RECORD_ROOM: usize = 256 * CHANNEL_BYTES + 64 * STEP_BYTES;
+
+const CHANNEL_BYTES: usize = 3 + 6;
+const STEP_BYTES: usize = 3 + 5;
 
 /// Both shifts of a meta channel.
 const META: u8 = 255;
 
+/// The bytes that describe a picture's channels and its plan. A program that
+/// makes records ends with [`checked`](Record::checked), or begins with
+/// [`from_parts`](Record::from_parts): then the bytes are those of the proved
+/// writer, and no later call refuses them for what they say.
+///
+/// ```
+/// use squeeze::{Record, Refusal};
+///
+/// let record = Record::new().channel(20, 9).checked()?;
+/// assert_eq!(record.bytes(), [1, 6, 0, 20, 0, 9, 0, 0, 0]);
+///
+/// let large = Record::new().channel(4096, 4096).channel(1, 1);
+/// assert_eq!(large.checked(), Err(Refusal::TooManySamples));
+/// # Ok::<(), Refusal>(())
+/// ```
+///
+/// Without it a record is only encoded: any numbers are taken, and the call that
+/// the bytes are handed to judges them. Channels stand before steps, in whatever
+/// order they were added.
+#[derive(Clone, Debug, Default, PartialEq, Eq)]
+pub struct Record {
+    channels: Vec<Channel>,
+    steps: Vec<Step>,
+    bytes: Vec<u8>,
+}
+
 impl Record {
-    /// A record without fields.
+    /// A record without fields, to which channels and steps are added.
     pub fn new() -> Record {
         Record::default()
     }
 
+    /// The record of these channels and steps, as the core writes it. No steps
+    /// mean the default plan.
+    ///
+    /// ```
+    /// use squeeze::{layout, Channel, Record, Refusal, Step};
+    ///
+    /// let step = Step { horizontal: true, in_place: true, first: 0, number: 1 };
+    /// let record = Record::from_parts(&[Channel::new(20, 9)], &[step])?;
+    /// assert_eq!(layout(record.bytes())?.channels.len(), 2);
+    ///
+    /// let past = Step { first: 1, ..step };
+    /// let refused = Record::from_parts(&[Channel::new(20, 9)], &[past]);
+    /// assert_eq!(refused, Err(Refusal::StepRange));
+    /// # Ok::<(), Refusal>(())
+    /// ```
+    pub fn from_parts(channels: &[Channel], steps: &[Step]) -> Result<Record, Refusal> {
+        let mut bytes = vec![0; RECORD_ROOM];
+        let channel_numbers: Vec<u32> = channels.iter().flat_map(channel_numbers).collect();
+        let step_numbers: Vec<u32> = steps.iter().flat_map(step_numbers).collect();
+        let length = write_record(&channel_numbers, &step_numbers, &mut bytes)?;
+        bytes.truncate(length);
+        Ok(Record {
+            channels: channels.to_vec(),
+            steps: steps.to_vec(),
+            bytes,
+        })
+    }
+
+    /// The same record, judged and written by the core; or why the core refuses
+    /// it.
+    pub fn checked(self) -> Result<Record, Refusal> {
+        let written = Record::from_parts(&self.channels, &self.steps)?;
+        assert_eq!(written, self, "the core writes this record otherwise");
+        Ok(written)
+    }
+
     /// Adds a channel without shifts.
     pub fn channel(self, width: u16, height: u16) -> Record {
-        self.shifted_channel(width, height, 0, 0)
+        self.add_channel(Channel::new(width, height))
     }
 
     /// Adds a channel with a horizontal and a vertical shift.
     pub fn shifted_channel(self, width: u16, height: u16, hshift: u8, vshift: u8) -> Record {
-        let [w0, w1] = width.to_le_bytes();
-        let [h0, h1] = height.to_le_bytes();
-        self.field(1, &[w0, w1, h0, h1, hshift, vshift])
+        let shifts = Some((hshift, vshift)).filter(|&shifts| shifts != (META, META));
+        self.add_channel(Channel {
+            width,
+            height,
+            shifts,
+        })
     }
 
     /// Adds a meta channel.
     pub fn meta_channel(self, width: u16, height: u16) -> Record {
-        self.shifted_channel(width, height, META, META)
+        self.add_channel(Channel::meta(width, height))
     }
 
     /// Adds a channel as a layout gives it.
-    pub fn add_channel(self, channel: Channel) -> Record {
-        let (hshift, vshift) = channel.shifts.unwrap_or((META, META));
-        self.shifted_channel(channel.width, channel.height, hshift, vshift)
+    pub fn add_channel(mut self, channel: Channel) -> Record {
+        let (hshift, vshift) = shifts(&channel);
+        let [w0, w1] = channel.width.to_le_bytes();
+        let [h0, h1] = channel.height.to_le_bytes();
+        let field = [1, 6, 0, w0, w1, h0, h1, hshift, vshift];
+        let end = self.channels.len() * CHANNEL_BYTES;
+        self.bytes.splice(end..end, field);
+        self.channels.push(channel);
+        self
     }
 
     /// Adds a step. A record without steps means the default plan.
-    pub fn step(self, step: Step) -> Record {
-        let flags = u8::from(step.horizontal) | u8::from(step.in_place) << 1;
+    pub fn step(mut self, step: Step) -> Record {
         let [f0, f1] = step.first.to_le_bytes();
         let [n0, n1] = step.number.to_le_bytes();
-        self.field(2, &[flags, f0, f1, n0, n1])
+        self.bytes
+            .extend_from_slice(&[2, 5, 0, flags(&step), f0, f1, n0, n1]);
+        self.steps.push(step);
+        self
     }
 
     /// The record.
     pub fn bytes(&self) -> &[u8] {
         &self.bytes
     }
+}
 
-    fn field(mut self, tag: u8, body: &[u8]) -> Record {
-        self.bytes.push(tag);
-        self.bytes
-            .extend_from_slice(&(body.len() as u16).to_le_bytes());
-        self.bytes.extend_from_slice(body);
-        self
-    }
+fn shifts(channel: &Channel) -> (u8, u8) {
+    channel.shifts.unwrap_or((META, META))
+}
+
+fn flags(step: &Step) -> u8 {
+    u8::from(step.horizontal) | u8::from(step.in_place) << 1
+}
+
+fn channel_numbers(channel: &Channel) -> [u32; 4] {
+    let (hshift, vshift) = shifts(channel);
+    [
+        channel.width.into(),
+        channel.height.into(),
+        hshift.into(),
+        vshift.into(),
+    ]
+}
+
+fn step_numbers(step: &Step) -> [u32; 3] {
+    [flags(step).into(), step.first.into(), step.number.into()]
+}
+
+/// Writes the record of channels and steps given as numbers over the front of
+/// `record`, and gives its length: four numbers a channel (width, height, two
+/// shifts, both 255 for meta), three a step (flags, first channel, number; flag
+/// bit 0 horizontal, bit 1 in place). A number too large for its field is
+/// refused, never cut. [`RECORD_ROOM`] bytes hold every record.
+///
+/// ```
+/// use squeeze::{write_record, Refusal, RECORD_ROOM};
+///
+/// let mut record = [0; RECORD_ROOM];
+/// let length = write_record(&[20, 9, 0, 0], &[], &mut record)?;
+/// assert_eq!(record[..length], [1, 6, 0, 20, 0, 9, 0, 0, 0]);
+///
+/// let wide = write_record(&[65_536, 9, 0, 0], &[], &mut record);
+/// assert_eq!(wide, Err(Refusal::Form));
+/// # Ok::<(), Refusal>(())
+/// ```
+pub fn write_record(channels: &[u32], steps: &[u32], record: &mut [u8]) -> Result<usize, Refusal> {
+    let mut length = [0];
+    // SAFETY: references are aligned and not null, for empty slices too, and
+    // mutable ones overlap nothing.
+    answer(unsafe {
+        ffi::squeeze_record(
+            channels.as_ptr(),
+            channels.len(),
+            steps.as_ptr(),
+            steps.len(),
+            record.as_mut_ptr(),
+            record.len(),
+            length.as_mut_ptr(),
+            length.len(),
+        )
+    })?;
+    let length = length[0] as usize;
+    assert!(length <= record.len(), "a record of {length} bytes");
+    Ok(length)
 }

@@ -14,7 +14,8 @@ pub enum Refusal {
     BadField = 2,
     /// 3: no channel, more than 256 channels or more than 64 steps.
     Count = 3,
-    /// 4: shifts out of range, a meta channel after another, or unknown flag bits.
+    /// 4: shifts out of range, a meta channel after another, unknown flag bits, or
+    /// a side above 65,535.
     Form = 4,
     /// 5: more than 16,777,216 samples.
     TooManySamples = 5,
@@ -30,7 +31,7 @@ pub enum Refusal {
     PlanTooDeep = 10,
     /// 11: the default plan is meant, and every channel is meta.
     OnlyMeta = 11,
-    /// 12: a slice doesn't have its length.
+    /// 12: a slice doesn't have its length, or room for what is written.
     SliceLength = 12,
     /// 13: sizes or neighbour lines of a tile call that don't fit each other.
     TileSizes = 13,
@@ -74,7 +75,8 @@ impl Refusal {
             Refusal::BadField => "unknown tag, wrong field length, or a channel after a step",
             Refusal::Count => "there must be 1 to 256 channels and at most 64 steps",
             Refusal::Form => {
-                "shifts must be 0 to 30 or both 255, meta channels first, unknown flag bits 0"
+                "shifts must be 0 to 30 or both 255, meta channels first, unknown flag bits 0, \
+                 sides at most 65,535"
             }
             Refusal::TooManySamples => "more than 16,777,216 samples",
             Refusal::StepRange => "a step has no channels or ends past the last channel",
@@ -83,7 +85,7 @@ impl Refusal {
             Refusal::EmptySide => "a step on a channel with a side of 0",
             Refusal::PlanTooDeep => "a step would leave more than 256 channels or a shift above 30",
             Refusal::OnlyMeta => "the default plan needs a channel that is not meta",
-            Refusal::SliceLength => "a slice doesn't have its length",
+            Refusal::SliceLength => "a slice doesn't have its length, or is too short",
             Refusal::TileSizes => "sizes or neighbour lines of a tile don't fit",
             Refusal::RectKind => "no rectangle for these kinds or this group dimension",
         }

@@ -79,7 +79,9 @@ fn rust_functions(text: &str) -> Vec<Function> {
 #[test]
 fn declarations_agree() {
     let header = header_functions();
-    assert_eq!(header.len(), 5, "{header:?}");
+    assert_eq!(header.len(), 6, "{header:?}");
+    // Every function answers a number.
+    assert!(header.iter().all(|(_, _, result)| result == "u32"));
     assert_eq!(rust_functions(include_str!("../src/ffi.rs")), header);
 }
 
@@ -105,7 +107,7 @@ fn c_example() {
     let ran = Command::new(&program).output().expect("the example starts");
     let text = String::from_utf8_lossy(&ran.stdout).into_owned();
     assert!(ran.status.success(), "{text}");
-    let listing = squeeze::listing(&[1, 6, 0, 20, 0, 9, 0, 0, 0]);
+    let listing = squeeze::listing(&[1, 6, 0, 20, 0, 9, 0, 0, 0]).unwrap();
     assert_eq!(
         text,
         format!("{listing}the picture came back, all 180 samples equal\n")

@@ -243,22 +243,28 @@ fn empty_slices() {
 
 #[test]
 fn room_for_the_listing() {
-    let mut random = Random::new(59);
-    let mut written = 0;
+    let (mut random, mut tally) = (Random::new(59), Tally::default());
     for _ in 0..3_000 {
         let record = records::some(&mut random);
-        let length = listing::listing(&record).len();
+        let length = listing::listing(&record).map_or(40, |text| text.len());
         for room in [0, 1, length - 1, length, length + 1, 8191, 8192, 9000] {
-            written += u64::from(must(lists::compare_room(&record, room)) > 0);
+            for numbers in [0, 1, 2] {
+                tally.add(must(lists::compare_room(&record, room, numbers)));
+            }
         }
     }
-    assert!(written > 12_000);
+    tally.print("room for the listing");
+    assert_eq!(tally.met(), (0..13).collect::<Vec<_>>());
+    assert!(tally.0[0] > 8_000 && tally.0[12] > 8_000);
     // The longest listing has 256 channels and 64 steps.
     let mut longest = (0..192).fold(Record::new(), |r, _| r.shifted_channel(200, 400, 10, 10));
     longest = (0..64).fold(longest, |r, k| r.step(step(true, false, 100 + k, 1)));
-    let length = listing::listing(longest.bytes()).len();
-    assert_eq!(must(lists::compare_room(longest.bytes(), length)), length);
-    assert_eq!(must(lists::compare_room(longest.bytes(), length - 1)), 0);
+    let length = listing::listing(longest.bytes()).unwrap().len();
+    assert_eq!(must(lists::compare_room(longest.bytes(), length, 1)), 0);
+    assert_eq!(
+        must(lists::compare_room(longest.bytes(), length - 1, 1)),
+        12
+    );
     assert!(length > 3_000 && length <= 8_192);
 }
 

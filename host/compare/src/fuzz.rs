@@ -3,12 +3,20 @@
 use crate::random::Random;
 use crate::runs::Run;
 use crate::tiles::Tile;
-use crate::{lists, records, rects};
-use squeeze::{GridQuery, Kind};
+use crate::{lists, parts, records, rects};
+use squeeze::{GridQuery, Kind, LISTING_ROOM, RECORD_ROOM};
 use squeeze_model::{list, listing, record};
 
-/// The exported functions, in the order of the report's rows.
-pub const FUNCTIONS: [&str; 5] = ["rebuild", "write", "tile", "listing", "grid_rect"];
+/// The exported functions, in the order of the report's rows, and the answers
+/// that each can give.
+pub const FUNCTIONS: [(&str, &[usize]); 6] = [
+    ("rebuild", &[0, 1, 2, 3, 4, 5, 6, 7, 8, 9, 10, 11, 12]),
+    ("write", &[0, 1, 2, 3, 4, 5, 6, 7, 8, 9, 10, 11, 12]),
+    ("tile", &[0, 5, 12, 13]),
+    ("listing", &[0, 1, 2, 3, 4, 5, 6, 7, 8, 9, 10, 11, 12]),
+    ("record", &[0, 3, 4, 5, 6, 7, 8, 9, 10, 11, 12]),
+    ("grid_rect", &[0, 4, 12, 14]),
+];
 
 /// Answers 0 to 14.
 pub const ANSWERS: usize = 15;
@@ -17,17 +25,20 @@ pub const ANSWERS: usize = 15;
 #[derive(Default)]
 pub struct Report {
     /// One row for each function, one column for each answer.
-    pub met: [[u64; ANSWERS]; 5],
+    pub met: [[u64; ANSWERS]; FUNCTIONS.len()],
     /// The first differences found.
     pub differences: Vec<String>,
 }
 
 impl Report {
-    /// The refusals, 1 to 14, that no function gave.
-    pub fn never_met(&self) -> Vec<usize> {
-        (1..ANSWERS)
-            .filter(|&answer| self.met.iter().all(|row| row[answer] == 0))
-            .collect()
+    /// The answers that a function can give and didn't.
+    pub fn never_met(&self) -> Vec<(&'static str, usize)> {
+        let mut missing = Vec::new();
+        for ((name, answers), row) in FUNCTIONS.iter().zip(&self.met) {
+            let never = answers.iter().filter(|&&answer| row[answer] == 0);
+            missing.extend(never.map(|&answer| (*name, answer)));
+        }
+        missing
     }
 
     fn add(&mut self, function: usize, answer: Result<u32, String>) {
@@ -43,12 +54,13 @@ pub fn run(count: u64, seed: u64) -> Report {
     let mut random = Random::new(seed);
     let mut report = Report::default();
     for _ in 0..count {
-        match random.below(8) {
+        match random.below(10) {
             0..=1 => report.add(0, whole_run(&mut random, true)),
             2..=3 => report.add(1, whole_run(&mut random, false)),
             4..=5 => report.add(2, tile(&mut random)),
             6 => report.add(3, listing_text(&mut random)),
-            _ => report.add(4, grid_rect(&mut random)),
+            7..=8 => report.add(4, record_of_numbers(&mut random)),
+            _ => report.add(5, grid_rect(&mut random)),
         }
         if report.differences.len() == 10 {
             break;
@@ -152,10 +164,27 @@ fn tile_sizes(random: &mut Random, horizontal: bool) -> [(usize, usize); 3] {
 
 fn listing_text(random: &mut Random) -> Result<u32, String> {
     let bytes = records::some(random);
-    let length = listing::listing(&bytes).len();
-    let room = random.pick(&[0, 1, length - 1, length, length + 1, squeeze::LISTING_ROOM]);
-    lists::compare_room(&bytes, room)?;
-    lists::compare(&bytes)
+    lists::compare(&bytes)?;
+    let length = listing::listing(&bytes).map_or(40, |text| text.len());
+    let rooms = [0, length - 1, length, length, length + 1, LISTING_ROOM];
+    let (room, numbers) = (random.pick(&rooms), random.pick(&[0, 1, 1, 1, 1, 1, 2]));
+    lists::compare_room(&bytes, room, numbers)
+}
+
+fn record_of_numbers(random: &mut Random) -> Result<u32, String> {
+    let parts = parts::some(random);
+    parts.compare()?;
+    let bytes = parts.bytes();
+    let rooms = [
+        0,
+        bytes.saturating_sub(1),
+        bytes,
+        bytes,
+        bytes + 1,
+        RECORD_ROOM,
+    ];
+    let (room, numbers) = (random.pick(&rooms), random.pick(&[0, 1, 1, 1, 1, 1, 2]));
+    Ok(parts.compare_room(room, numbers)?.0)
 }
 
 fn grid_rect(random: &mut Random) -> Result<u32, String> {

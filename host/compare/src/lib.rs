@@ -9,6 +9,7 @@
 pub mod fuzz;
 mod guard;
 pub mod lists;
+pub mod parts;
 pub mod random;
 mod raw;
 pub mod records;

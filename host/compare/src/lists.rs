@@ -9,11 +9,11 @@ use squeeze_model::{listing, record};
 /// The listing of a record with room for 8,192 bytes, and its layout. Gives the
 /// answer, 0 or a refusal's number.
 pub fn compare(bytes: &[u8]) -> Result<u32, String> {
-    let text = listing::listing(bytes);
+    let model = listing::listing(bytes);
     let lent = Lent::new(bytes, 0xa5);
-    let ours = squeeze::listing(lent.slice());
-    expect(ours == text && lent.holds(bytes), || {
-        format!("listing: record {bytes:02x?}\ncore:\n{ours}model:\n{text}")
+    let ours = squeeze::listing(lent.slice()).map_err(|refusal| refusal.number());
+    expect(ours == model && lent.holds(bytes), || {
+        format!("listing: record {bytes:02x?}\ncore: {ours:?}\nmodel: {model:?}")
     })?;
     compare_layout(bytes)
 }
@@ -36,8 +36,8 @@ fn as_layout(plan: &Plan) -> squeeze::Layout {
     let step = |s: &Step| squeeze::Step {
         horizontal: s.horizontal,
         in_place: s.in_place,
-        first: s.first,
-        number: s.number,
+        first: s.first.try_into().expect("from a record"),
+        number: s.number.try_into().expect("from a record"),
     };
     let channel = |c: &Channel| squeeze::Channel {
         width: c.width,
@@ -51,21 +51,27 @@ fn as_layout(plan: &Plan) -> squeeze::Layout {
     }
 }
 
-/// The C function with `room` bytes for the text.
-pub fn compare_room(bytes: &[u8], room: usize) -> Result<usize, String> {
-    let text = listing::listing(bytes);
-    let mut expected = vec![b'#'; room];
-    let mut length = 0;
-    if text.len() <= room {
-        length = text.len();
-        expected[..length].copy_from_slice(text.as_bytes());
-    }
+/// The C function with `room` bytes for the text and `numbers` numbers for its
+/// length. Gives the answer.
+pub fn compare_room(bytes: &[u8], room: usize, numbers: usize) -> Result<u32, String> {
+    let before = (vec![b'#'; room], vec![0xeeee_eeee; numbers]);
+    let (mut model_text, mut model_length) = before.clone();
+    let expected = listing::list_record(bytes, &mut model_text, &mut model_length);
     let lent = Lent::new(bytes, 0xa5);
-    let mut out = Lent::new(&vec![b'#'; room], b'!');
-    let ours = raw::listing(lent.slice(), out.slice_mut());
-    let same = ours == length && lent.holds(bytes) && out.holds(&expected);
-    expect(same, || {
-        format!("listing into {room} bytes: core {ours}, model {length}; record {bytes:02x?}")
+    let mut text = Lent::new(&before.0, b'!');
+    let mut length = Lent::new(&before.1, 0x5a5a_0007);
+    let answer = raw::listing(lent.slice(), text.slice_mut(), length.slice_mut());
+    let same = answer == expected
+        && lent.holds(bytes)
+        && text.holds(&model_text)
+        && length.holds(&model_length);
+    let promise = answer == 0 || (text.holds(&before.0) && length.holds(&before.1));
+    expect(same && promise, || {
+        format!(
+            "listing into {room} bytes, {numbers} numbers: core {answer}, model {expected}, \
+             length {:?}; record {bytes:02x?}",
+            length.slice()
+        )
     })?;
-    Ok(length)
+    Ok(answer)
 }

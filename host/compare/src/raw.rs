@@ -1,8 +1,8 @@
-//! Three of the C functions as a C program sees them, for arguments that the
+//! Four of the C functions as a C program sees them, for arguments that the
 //! safe functions can't express: other numbers than 0 and 1 for the direction,
-//! room for the listing, a rectangle of another length.
+//! room for the listing and for lengths, a rectangle of another length.
 
-use squeeze::ffi::{squeeze_grid_rect, squeeze_listing, squeeze_tile};
+use squeeze::ffi::{squeeze_grid_rect, squeeze_listing, squeeze_record, squeeze_tile};
 
 /// Averages, residuals, next line, previous line.
 pub type Inputs<'a> = [&'a [i32]; 4];
@@ -34,9 +34,34 @@ pub fn tile(horizontal: u32, sizes: [(usize, usize); 3], inputs: Inputs, out: &m
     }
 }
 
-pub fn listing(record: &[u8], text: &mut [u8]) -> usize {
+pub fn listing(record: &[u8], text: &mut [u8], length: &mut [u32]) -> u32 {
     // SAFETY: as above.
-    unsafe { squeeze_listing(record.as_ptr(), record.len(), text.as_mut_ptr(), text.len()) }
+    unsafe {
+        squeeze_listing(
+            record.as_ptr(),
+            record.len(),
+            text.as_mut_ptr(),
+            text.len(),
+            length.as_mut_ptr(),
+            length.len(),
+        )
+    }
+}
+
+pub fn record(channels: &[u32], steps: &[u32], record: &mut [u8], length: &mut [u32]) -> u32 {
+    // SAFETY: as above.
+    unsafe {
+        squeeze_record(
+            channels.as_ptr(),
+            channels.len(),
+            steps.as_ptr(),
+            steps.len(),
+            record.as_mut_ptr(),
+            record.len(),
+            length.as_mut_ptr(),
+            length.len(),
+        )
+    }
 }
 
 pub fn grid_rect(query: &squeeze::GridQuery, rect: &mut [u32]) -> u32 {

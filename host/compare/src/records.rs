@@ -79,8 +79,8 @@ fn steps(random: &mut Random, record: Record, list: Vec<Channel>, number: usize)
         let same = list::Step {
             horizontal: step.horizontal,
             in_place: step.in_place,
-            first: step.first,
-            number: step.number,
+            first: step.first.into(),
+            number: step.number.into(),
         };
         if let Ok(next) = list::take_step(&list, &same) {
             list = next;

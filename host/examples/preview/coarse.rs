@@ -14,10 +14,8 @@ pub struct Preview {
 /// Squeezes a picture with the default plan. The front of its pyramid holds one
 /// average for each of its channels, in order.
 pub fn preview(picture: &Picture) -> Result<Preview, Refusal> {
-    let mut record = Record::new();
-    for _ in 0..picture.channels {
-        record = record.channel(picture.width as u16, picture.height as u16);
-    }
+    let channel = Channel::new(picture.width as u16, picture.height as u16);
+    let record = Record::from_parts(&vec![channel; picture.channels], &[])?;
     let pyramid = write_pyramid(record.bytes(), &picture.planes())?;
     let averages = &layout(record.bytes())?.channels[..picture.channels];
     let arrived = averages.iter().map(Channel::samples).sum();

@@ -11,6 +11,7 @@ pub mod listing;
 pub mod pair;
 pub mod plan;
 pub mod record;
+pub mod record_writer;
 pub mod rect;
 pub mod run;
 pub mod squeeze;
@@ -37,7 +38,7 @@ pub mod refusal {
     pub const BAD_FIELD: u32 = 2;
     /// Question 3: how many channels and steps.
     pub const COUNT: u32 = 3;
-    /// Question 4: shifts, meta channels first, flag bits.
+    /// Question 4: shifts, meta channels first, flag bits; sides given as numbers.
     pub const FORM: u32 = 4;
     /// Question 5: the sample total.
     pub const SAMPLES: u32 = 5;

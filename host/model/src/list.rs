@@ -21,9 +21,9 @@ pub struct Step {
     /// Residuals straight after the range.
     pub in_place: bool,
     /// First channel.
-    pub first: u16,
+    pub first: u32,
     /// Number of channels.
-    pub number: u16,
+    pub number: u32,
 }
 
 impl Channel {
@@ -58,8 +58,8 @@ impl Channel {
 impl Step {
     /// Its range, as positions of a list that the step fits.
     pub fn range(&self) -> std::ops::Range<usize> {
-        let first = usize::from(self.first);
-        first..first + usize::from(self.number)
+        let first = self.first as usize;
+        first..first + self.number as usize
     }
 
     /// Where the first residual goes in a list of `count` channels.

@@ -24,7 +24,7 @@ fn chroma_steps(meta: usize, w: u16, h: u16, steps: &mut Vec<Step>) {
     let step = |horizontal| Step {
         horizontal,
         in_place: false,
-        first: meta as u16 + 1,
+        first: meta as u32 + 1,
         number: 2,
     };
     if w > 1 {
@@ -40,8 +40,8 @@ fn all_steps(meta: usize, n: usize, mut w: u16, mut h: u16, steps: &mut Vec<Step
     let step = |horizontal| Step {
         horizontal,
         in_place: true,
-        first: meta as u16,
-        number: n as u16,
+        first: meta as u32,
+        number: n as u32,
     };
     if w <= h && h > COARSE_SIDE {
         steps.push(step(false));

@@ -85,8 +85,8 @@ fn add_step(record: &mut Record, body: &[u8]) -> Result<(), u32> {
     record.steps.push(Step {
         horizontal: flags & 1 == 1,
         in_place: flags & 2 == 2,
-        first: number(body[1], body[2]),
-        number: number(body[3], body[4]),
+        first: number(body[1], body[2]).into(),
+        number: number(body[3], body[4]).into(),
     });
     Ok(())
 }
