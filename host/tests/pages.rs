@@ -4,9 +4,10 @@
 #![cfg(target_os = "linux")]
 
 use squeeze::{Size, TileSizes};
+use squeeze_compare::parts::{self, Parts};
 use squeeze_compare::random::Random;
-use squeeze_compare::{number, records};
-use squeeze_model::{list, listing, record, run, tile};
+use squeeze_compare::{number, raw, records, rects, Tally};
+use squeeze_model::{list, listing, record, record_writer, run, tile};
 use std::ffi::c_void;
 use std::ptr;
 
@@ -66,7 +67,7 @@ fn fences<const N: usize>() -> [Fenced; N] {
 }
 
 #[test]
-fn whole_runs_and_listings() {
+fn whole_runs() {
     let mut random = Random::new(91);
     let [mut f0, mut f1, mut f2, mut f3] = fences();
     let mut accepted = 0;
@@ -92,10 +93,79 @@ fn whole_runs_and_listings() {
         assert_eq!(number(&answer), expected, "{bytes:02x?}");
         assert!(out == model_out && work == model_work);
         accepted += u32::from(expected == 0);
-        let listed = squeeze::listing(lent).map_err(|refusal| refusal.number());
-        assert_eq!(listed, listing::listing(&bytes));
     }
     assert!(accepted > 2_000);
+}
+
+#[test]
+fn listings() {
+    let (mut random, mut tally) = (Random::new(93), Tally::default());
+    let [mut f0, mut f1, mut f2] = fences();
+    for k in 0..20_000 {
+        let end = k % 2 == 0;
+        let bytes = records::some(&mut random);
+        let room = listing::listing(&bytes).map_or(9, |text| text.len()) - random.below(2);
+        let (mut model_text, mut model_length) = (vec![b'#'; room], [9]);
+        let lent = f0.lend(&bytes, end);
+        let text = f1.lend(&model_text, end);
+        let length = f2.lend(&model_length, end);
+        let answer = raw::listing(lent, text, length);
+        let expected = listing::list_record(&bytes, &mut model_text, &mut model_length);
+        assert_eq!(answer, expected, "{bytes:02x?}");
+        assert!(text == model_text && length == model_length);
+        tally.add(answer);
+    }
+    assert_eq!(tally.met(), (0..13).collect::<Vec<_>>());
+}
+
+#[test]
+fn records_of_numbers() {
+    let (mut random, mut tally) = (Random::new(94), Tally::default());
+    let [mut f0, mut f1, mut f2, mut f3] = fences();
+    for k in 0..20_000 {
+        let end = k % 2 == 0;
+        let Parts { channels, steps } = parts::some(&mut random);
+        let room = channels.len() / 4 * 9 + steps.len() / 3 * 8;
+        let room = room.saturating_sub(random.below(2));
+        let (mut model_record, mut model_length) = (vec![7; room], [9]);
+        let record = f2.lend(&model_record, end);
+        let length = f3.lend(&model_length, end);
+        let answer = raw::record(
+            f0.lend(&channels, end),
+            f1.lend(&steps, end),
+            record,
+            length,
+        );
+        let expected =
+            record_writer::write_record(&channels, &steps, &mut model_record, &mut model_length);
+        assert_eq!(answer, expected, "{channels:?} {steps:?}");
+        assert!(record == model_record && length == model_length);
+        tally.add(answer);
+    }
+    assert_eq!(tally.met(), [0, 3, 4, 5, 6, 7, 8, 9, 10, 11, 12]);
+}
+
+#[test]
+fn rectangles() {
+    let mut random = Random::new(95);
+    let [mut fence] = fences();
+    for k in 0..20_000 {
+        let query = squeeze::GridQuery {
+            width: random.bits() as u16,
+            height: random.bits() as u16,
+            hshift: random.below(32) as u8,
+            vshift: random.below(9) as u8,
+            output: squeeze::Kind(random.below(3) as u8),
+            stored: squeeze::Kind(random.below(3) as u8),
+            group: random.pick(&[128, 256, 512, 1024]),
+            gx: random.below(600) as u16,
+            gy: random.below(40) as u16,
+        };
+        let numbers = random.pick(&[0, 3, 4, 4, 4, 4, 5]);
+        let rect = fence.lend(&vec![7; numbers], k % 2 == 0);
+        let answer = raw::grid_rect(&query, rect);
+        assert_eq!(Ok(answer), rects::compare(&query, numbers));
+    }
 }
 
 #[test]

@@ -11,7 +11,7 @@ mod guard;
 pub mod lists;
 pub mod parts;
 pub mod random;
-mod raw;
+pub mod raw;
 pub mod records;
 pub mod rects;
 pub mod runs;

@@ -7,6 +7,7 @@ use squeeze::ffi::{squeeze_grid_rect, squeeze_listing, squeeze_record, squeeze_t
 /// Averages, residuals, next line, previous line.
 pub type Inputs<'a> = [&'a [i32]; 4];
 
+/// One tile.
 pub fn tile(horizontal: u32, sizes: [(usize, usize); 3], inputs: Inputs, out: &mut [i32]) -> u32 {
     let [(aw, ah), (rw, rh), (ow, oh)] = sizes;
     let [avg, res, next, prev] = inputs;
@@ -34,6 +35,7 @@ pub fn tile(horizontal: u32, sizes: [(usize, usize); 3], inputs: Inputs, out: &m
     }
 }
 
+/// A record's listing, and its length.
 pub fn listing(record: &[u8], text: &mut [u8], length: &mut [u32]) -> u32 {
     // SAFETY: as above.
     unsafe {
@@ -48,6 +50,7 @@ pub fn listing(record: &[u8], text: &mut [u8], length: &mut [u32]) -> u32 {
     }
 }
 
+/// The record of channels and steps, and its length.
 pub fn record(channels: &[u32], steps: &[u32], record: &mut [u8], length: &mut [u32]) -> u32 {
     // SAFETY: as above.
     unsafe {
@@ -64,6 +67,7 @@ pub fn record(channels: &[u32], steps: &[u32], record: &mut [u8], length: &mut [
     }
 }
 
+/// A rectangle.
 pub fn grid_rect(query: &squeeze::GridQuery, rect: &mut [u32]) -> u32 {
     // SAFETY: as above.
     unsafe {
