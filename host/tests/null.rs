@@ -87,7 +87,7 @@ fn tile() {
             let sizes = [averages, residuals, averages + residuals].map(size);
             let call = |nulls| {
                 let [mut avg, mut res, mut next, mut prev, mut out] =
-                    lengths.map(|n| (0..n as i32).map(|k| 7 * k % 5).collect::<Vec<i32>>());
+                    lengths.map(|n| (0..n).map(|k| 7 * k % 5).collect::<Vec<i32>>());
                 // SAFETY: as above.
                 let answer = unsafe {
                     ffi::squeeze_tile(

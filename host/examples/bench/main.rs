@@ -4,6 +4,11 @@
 //! `cargo run --release --example bench -- [SECONDS]` spends about so many
 //! seconds on each row (2 if not given).
 
+mod clock;
+mod plans;
+
+use clock::{now, CLOCK};
+use plans::Plan;
 use squeeze::{Record, Size, TileSizes};
 use squeeze_compare::random::Random;
 use squeeze_model as model;
@@ -41,20 +46,46 @@ fn main() {
         "", "samples", "/ plain", "/ copy", "ours ns", "plain ns", "copy ns"
     );
     let rows: Vec<[Times; 4]> = SIDES.iter().map(|&side| measure(side, budget)).collect();
+    let costly = [
+        plans::idle(true),
+        plans::idle(false),
+        plans::shifts(),
+        // The costliest that `examples/worst.rs` found.
+        plans::doubled(255, 65_535, &[true; 7], false),
+    ];
+    let costly = costly.map(|plan| (measure_plan(&plan, budget), plan.name));
     print_ratios(&rows);
+    print_costly(&rows, &costly);
 }
 
 /// The four rows of one picture size.
 fn measure(side: usize, budget: Duration) -> [Times; 4] {
     let picture = photograph(side);
+    let record = Record::new().channel(side as u16, side as u16);
     let measured = [
         tile(true, side, &picture, budget),
         tile(false, side, &picture, budget),
-        rebuild(side, &picture, budget),
-        write(side, &picture, budget),
+        rebuild(record.bytes(), &picture, budget),
+        write(record.bytes(), &picture, budget),
     ];
     for (name, times) in NAMES.iter().zip(&measured) {
-        print_row(name, side, times);
+        print_row(name, &format!("{side} x {side}"), times);
+    }
+    measured
+}
+
+/// Rebuilding and writing by a plan of its own.
+fn measure_plan(plan: &Plan, budget: Duration) -> [Times; 2] {
+    let mut picture = photograph(4096);
+    picture.truncate(plan.samples);
+    let record = plan.record.bytes();
+    let measured = [
+        rebuild(record, &picture, budget),
+        write(record, &picture, budget),
+    ];
+    println!("{}:", plan.name);
+    for (name, times) in NAMES[2..].iter().zip(&measured) {
+        print_row(name, &plan.samples.to_string(), times);
     }
     measured
 }
@@ -104,9 +135,7 @@ fn tile(horizontal: bool, side: usize, picture: &[i32], budget: Duration) -> Tim
     race(picture, picture, ours, plain, budget)
 }
 
-fn rebuild(side: usize, picture: &[i32], budget: Duration) -> Times {
-    let record = Record::new().channel(side as u16, side as u16);
-    let record = record.bytes();
+fn rebuild(record: &[u8], picture: &[i32], budget: Duration) -> Times {
     let pyramid = squeeze::write_pyramid(record, picture).expect("accepted");
     let ours = |out: &mut [i32], work: &mut [i32]| {
         squeeze::rebuild(record, &pyramid, out, work).expect("accepted");
@@ -117,9 +146,7 @@ fn rebuild(side: usize, picture: &[i32], budget: Duration) -> Times {
     race(picture, picture, ours, plain, budget)
 }
 
-fn write(side: usize, picture: &[i32], budget: Duration) -> Times {
-    let record = Record::new().channel(side as u16, side as u16);
-    let record = record.bytes();
+fn write(record: &[u8], picture: &[i32], budget: Duration) -> Times {
     let pyramid = squeeze::write_pyramid(record, picture).expect("accepted");
     let ours = |out: &mut [i32], work: &mut [i32]| {
         squeeze::write(record, picture, out, work).expect("accepted");
@@ -174,38 +201,10 @@ fn time(calls: usize, mut run: impl FnMut()) -> f64 {
     now() - start
 }
 
-#[cfg(all(target_os = "linux", target_pointer_width = "64"))]
-const CLOCK: &str = "the thread's processor time";
-
-/// Seconds that this thread has run: other programs on the machine don't count,
-/// but they share its caches.
-#[cfg(all(target_os = "linux", target_pointer_width = "64"))]
-fn now() -> f64 {
-    extern "C" {
-        fn clock_gettime(clock: i32, time: *mut [i64; 2]) -> i32;
-    }
-    const THREAD: i32 = 3;
-    let mut time = [0; 2];
-    // SAFETY: on such machines a timespec is two i64, and the array is one.
-    assert_eq!(unsafe { clock_gettime(THREAD, &mut time) }, 0);
-    time[0] as f64 + time[1] as f64 * 1e-9
-}
-
-#[cfg(not(all(target_os = "linux", target_pointer_width = "64")))]
-const CLOCK: &str = "time on the wall clock";
-
-#[cfg(not(all(target_os = "linux", target_pointer_width = "64")))]
-fn now() -> f64 {
-    use std::sync::OnceLock;
-    static START: OnceLock<Instant> = OnceLock::new();
-    START.get_or_init(Instant::now).elapsed().as_secs_f64()
-}
-
-fn print_row(name: &str, side: usize, times: &Times) {
+fn print_row(name: &str, samples: &str, times: &Times) {
     let Times { ours, plain, copy } = *times;
     println!(
-        "{name:<16} {:>11} {:>9.2} {:>9.2} {ours:>9.3} {plain:>9.3} {copy:>9.3}",
-        format!("{side} x {side}"),
+        "{name:<16} {samples:>11} {:>9.2} {:>9.2} {ours:>9.3} {plain:>9.3} {copy:>9.3}",
         ours / plain,
         ours / copy,
     );
@@ -231,4 +230,15 @@ fn print_ratios(rows: &[[Times; 4]]) {
     let ours = large[2].ours / (large[0].ours + large[1].ours);
     let plain = large[2].plain / (large[0].plain + large[1].plain);
     println!("  ours {ours:.2}, plain {plain:.2}");
+}
+
+fn print_costly(rows: &[[Times; 4]], costly: &[([Times; 2], String)]) {
+    let [.., [_, _, rebuild, write]] = rows else {
+        unreachable!("one row per side")
+    };
+    println!("time per sample over that of the default plan at 4096 x 4096:");
+    for ([back, forward], name) in costly {
+        let (rebuild, write) = (back.ours / rebuild.ours, forward.ours / write.ours);
+        println!("  {name}: rebuild {rebuild:.2}, write {write:.2}");
+    }
 }

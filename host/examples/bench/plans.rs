@@ -1,0 +1,132 @@
+//! Plans on 16 million samples that cost more than the default plan.
+
+use squeeze::{Channel, Record, Step};
+use squeeze_model::list;
+
+/// A plan, and what it is called in the tables.
+pub struct Plan {
+    pub name: String,
+    pub record: Record,
+    pub samples: usize,
+}
+
+/// Horizontal, in place, first channel, number.
+type StepWords = (bool, bool, usize, usize);
+
+/// Channels, and steps on the list as it then is.
+pub struct Draft {
+    record: Record,
+    pub list: Vec<list::Channel>,
+}
+
+impl Draft {
+    pub fn new(channels: &[Channel]) -> Draft {
+        let record = channels
+            .iter()
+            .copied()
+            .fold(Record::new(), Record::add_channel);
+        let list = squeeze_model::record::read(record.bytes())
+            .expect("a form")
+            .channels;
+        Draft { record, list }
+    }
+
+    /// With one step more, if it is accepted.
+    pub fn step(&self, (horizontal, in_place, first, number): StepWords) -> Option<Draft> {
+        let same = list::Step {
+            horizontal,
+            in_place,
+            first: first as u32,
+            number: number as u32,
+        };
+        let list = list::take_step(&self.list, &same).ok()?;
+        let step = Step {
+            horizontal,
+            in_place,
+            first: first as u16,
+            number: number as u16,
+        };
+        let record = self.record.clone().step(step);
+        Some(Draft { record, list })
+    }
+
+    /// A step on every channel: there are twice as many afterwards.
+    fn double(self, horizontal: bool, in_place: bool) -> Draft {
+        let count = self.list.len();
+        self.step((horizontal, in_place, 0, count))
+            .expect("accepted")
+    }
+
+    /// A step, not in place, on the first channel that isn't a single sample: all
+    /// that lies behind it moves.
+    pub fn shift(self) -> Draft {
+        let (at, channel) = self
+            .list
+            .iter()
+            .enumerate()
+            .find(|(_, c)| c.samples() > 1)
+            .expect("one");
+        let horizontal = channel.width > 1;
+        self.step((horizontal, false, at, 1)).expect("accepted")
+    }
+
+    pub fn finish(self, name: String) -> Plan {
+        let samples = list::total(&self.list);
+        let record = self.record.checked().expect("accepted");
+        Plan {
+            name,
+            record,
+            samples,
+        }
+    }
+}
+
+/// A channel of nearly 16,777,216 samples.
+const LARGE: (u16, u16) = (4096, 4095);
+
+/// So many channels of a size, then the large one.
+fn before_large(number: usize, width: u16, height: u16) -> Draft {
+    let mut channels = vec![Channel::new(width, height); number];
+    channels.push(Channel::new(LARGE.0, LARGE.1));
+    Draft::new(&channels)
+}
+
+fn place(in_place: bool) -> &'static str {
+    if in_place {
+        "in place"
+    } else {
+        "not in place"
+    }
+}
+
+/// 60 steps on a channel of one sample before the large one: nothing moves.
+pub fn idle(in_place: bool) -> Plan {
+    let draft = before_large(1, 1, 1);
+    let draft = (0..60).fold(draft, |draft, k| {
+        draft.step((k % 2 == 0, in_place, 0, 1)).expect("accepted")
+    });
+    draft.finish(format!("60 steps that move nothing, {}", place(in_place)))
+}
+
+/// 64 steps that each take one sample from before the large channel to the end.
+pub fn shifts() -> Plan {
+    let draft = before_large(64, 2, 1);
+    let draft = (0..64).fold(draft, |draft, _| draft.shift());
+    draft.finish("64 steps that move all by a sample".into())
+}
+
+/// Steps on all channels, then, up to 64 steps, some that move all.
+pub fn doubled(width: u16, height: u16, horizontal: &[bool], in_place: bool) -> Plan {
+    let mut draft = Draft::new(&[Channel::new(width, height)]);
+    for &horizontal in horizontal {
+        draft = draft.double(horizontal, in_place);
+    }
+    let rest = (64 - horizontal.len()).min(256 - draft.list.len());
+    draft = (0..rest).fold(draft, |draft, _| draft.shift());
+    let letter = |&horizontal: &bool| if horizontal { 'h' } else { 'v' };
+    draft.finish(format!(
+        "{width} x {height}, {} on all, {}; {rest} that move all",
+        horizontal.iter().map(letter).collect::<String>(),
+        place(in_place)
+    ))
+}
