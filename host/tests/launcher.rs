@@ -1,13 +1,15 @@
-//! The launcher `squeeze-list`: what it prints, its status, what it says while
-//! the program is proved, and two started together. On this repository's program
-//! where the toolchain is found, and on small trees with an `rt` that only plays
-//! the toolchain.
+//! The program `squeeze-list` and its launcher: what they print, the status, what
+//! is said while the program is proved, and two started together. On this
+//! repository's program where the toolchain is found, and on small trees with an
+//! `rt` that only plays the toolchain.
 
 #![cfg(target_os = "linux")]
 
 use squeeze_compare::random::Random;
+use squeeze_compare::{records, Tally};
+use squeeze_model::listing;
 use std::ffi::{OsStr, OsString};
-use std::io::{BufRead, BufReader, Read};
+use std::io::{BufRead, BufReader, Read, Write};
 use std::os::unix::fs::{symlink, PermissionsExt};
 use std::path::{Path, PathBuf};
 use std::process::{Command, Output, Stdio};
@@ -202,6 +204,47 @@ fn ten_pairs_started_together() {
         }
     }
     assert!(stamp.exists());
+}
+
+/// The program without its launcher, on standard input and output.
+fn program(bytes: &[u8]) -> String {
+    let mut child = Command::new(repository().join("target/bin/squeeze_list"))
+        .stdin(Stdio::piped())
+        .stdout(Stdio::piped())
+        .spawn()
+        .expect("the program starts");
+    // It may end before it has read everything.
+    let _ = child.stdin.take().expect("piped").write_all(bytes);
+    let output = child.wait_with_output().expect("it ends");
+    assert!(output.status.success(), "{bytes:02x?}");
+    text(&output.stdout)
+}
+
+/// The first 4,096 bytes are judged; a refusal is one line.
+#[test]
+fn the_program_beside_the_model() {
+    if built().is_none() {
+        return;
+    }
+    let (mut random, mut tally) = (Random::new(122), Tally::default());
+    for _ in 0..1_500 {
+        let mut bytes = records::some(&mut random);
+        if random.once_in(10) {
+            // A field too long for the rest, for the judged bytes, or for neither.
+            let length = random.pick(&[4080, 4093, 4094, 9000]);
+            bytes.extend_from_slice(&[1, length as u8, (length >> 8) as u8]);
+            bytes.resize(bytes.len() + random.pick(&[4093, 4094, 9000]), 0);
+        }
+        let judged = &bytes[..bytes.len().min(4096)];
+        let (answer, expected) = match listing::listing(judged) {
+            Ok(listing) => (0, listing),
+            Err(number) => (number, format!("refused {number}\n")),
+        };
+        assert_eq!(program(&bytes), expected, "{bytes:02x?}");
+        tally.add(answer);
+    }
+    tally.print("the program on random records");
+    assert_eq!(tally.met(), (0..12).collect::<Vec<_>>());
 }
 
 // ---- with a played toolchain

@@ -1,6 +1,7 @@
-//! The record's writer: channels and steps as numbers to the record's bytes, by
-//! questions 3 to 11 and then 14. There are as many channels and steps as whole
-//! groups of numbers; a number that no field could hold is judged, never cut.
+//! The record's writer: channels and steps as numbers, the interface's form of
+//! them, to the record's bytes, by questions 3 to 11 and then 14. There are as many
+//! channels and steps as whole groups of numbers; a number that no field could hold
+//! is judged, never cut.
 
 use crate::list::{Channel, Step};
 use crate::{plan, refusal, MAX_CHANNELS, MAX_SHIFT, MAX_STEPS};
