@@ -206,6 +206,22 @@ fn ten_pairs_started_together() {
     assert!(stamp.exists());
 }
 
+/// The toolchain builds nothing that it has proved before.
+#[test]
+fn a_program_that_is_gone() {
+    let Some(path) = built() else { return };
+    let tree = copy("gone");
+    fs::remove_file(tree.join("target/bin/squeeze_list")).expect("a program");
+    let output = run(&tree, path, "./squeeze-list < record");
+    let said = text(&output.stderr);
+    assert_eq!(
+        (output.status.code(), text(&output.stdout)),
+        (Some(1), String::new())
+    );
+    assert!(said.contains("start again"), "{said}");
+    assert!(!tree.join("target/squeeze-list.stamp").exists());
+}
+
 /// The program without its launcher, on standard input and output.
 fn program(bytes: &[u8]) -> String {
     let mut child = Command::new(repository().join("target/bin/squeeze_list"))
