@@ -66,16 +66,17 @@ uint32_t squeeze_listing(const uint8_t *record, size_t record_len,
                          uint8_t *text, size_t text_len,
                          uint32_t *length, size_t length_len);
 
-/* Writes a record. channels: four numbers each, width, height, horizontal and
-   vertical shift, both shifts 255 for a meta channel. steps: three numbers each,
-   flags (1 horizontal, 2 in place, or their sum), first channel, number of
+/* Writes a record, if its channels and its plan are such as the other functions
+   take. channels: four numbers each, width, height, horizontal and vertical
+   shift, both shifts 255 for a meta channel. steps: three numbers each, flags
+   (the sum of 1 for horizontal and 2 for in place), first channel, number of
    channels; no steps mean the default plan. The bytes go over the front of
-   `record` (2,816 hold every record, 9 a channel and 8 a step), their number
-   into length[0]; what is past them stays. The whole plan is judged, as a call
-   with the record would judge it. A number too large for the record's field is
-   refused: a side of 65,536 with 4, shifts and flags above 255 with 4, a step's
-   first channel or number of 65,536 with 6. A number left over after the last
-   whole channel or step, a record too short or no length: refused with 12. */
+   `record` (9 for a channel, 8 for a step; 2,816 hold every record), their
+   number into length[0]; what is past them stays. A number too large for its
+   field is refused, never cut: a side of 65,536 with 4, shifts and flags above
+   255 with 4, a step's first channel or number of 65,536 with 6. Numbers left
+   over after the last whole channel or step, a record too short or no length:
+   refused with 12. */
 uint32_t squeeze_record(const uint32_t *channels, size_t channels_len,
                         const uint32_t *steps, size_t steps_len,
                         uint8_t *record, size_t record_len,

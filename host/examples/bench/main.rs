@@ -50,7 +50,7 @@ fn main() {
         plans::idle(true),
         plans::idle(false),
         plans::shifts(),
-        // The costliest that `examples/worst.rs` found.
+        // As costly as any that `examples/worst.rs` finds.
         plans::doubled(255, 65_535, &[true; 7], false),
     ];
     let costly = costly.map(|plan| (measure_plan(&plan, budget), plan.name));
