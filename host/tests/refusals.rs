@@ -206,18 +206,7 @@ fn tile_calls() {
     }
 }
 
-/// Document 01's own case.
-const RECT: GridQuery = GridQuery {
-    width: 3000,
-    height: 200,
-    hshift: 0,
-    vshift: 0,
-    output: Kind::HF,
-    stored: Kind::LF,
-    group: 256,
-    gx: 9,
-    gy: 0,
-};
+const RECT: GridQuery = rects::DOCUMENT_01;
 
 #[test]
 #[rustfmt::skip]

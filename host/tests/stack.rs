@@ -4,10 +4,10 @@
 
 #![cfg(target_os = "linux")]
 
-use squeeze::{GridQuery, Kind, Record, Step};
+use squeeze::{Record, Step};
 use squeeze_compare::parts::Parts;
 use squeeze_compare::random::Random;
-use squeeze_compare::{number, raw, records};
+use squeeze_compare::{lists, number, raw, records, rects};
 use squeeze_model::{list, record};
 use std::ffi::c_void;
 use std::process::Command;
@@ -166,18 +166,7 @@ fn tiles() -> u32 {
 static OUT: Mutex<[i32; 69 * 75]> = Mutex::new([0; 69 * 75]);
 
 fn rectangle() -> u32 {
-    let query = GridQuery {
-        width: 3000,
-        height: 200,
-        hshift: 0,
-        vshift: 0,
-        output: Kind::HF,
-        stored: Kind::LF,
-        group: 256,
-        gx: 9,
-        gy: 0,
-    };
-    raw::grid_rect(&query, &mut [0; 4])
+    raw::grid_rect(&rects::DOCUMENT_01, &mut [0; 4])
 }
 
 /// What a function answers on a record that the others answer `answer`.
@@ -249,13 +238,7 @@ fn long_plan(random: &mut Random) -> Vec<u8> {
             let first = random.below(list.len());
             let place = random.once_in(2);
             let step = step(random.once_in(2), place, first, 1 + random.below(4) as u16);
-            let same = list::Step {
-                horizontal: step.horizontal,
-                in_place: step.in_place,
-                first: step.first.into(),
-                number: step.number.into(),
-            };
-            if let Ok(next) = list::take_step(&list, &same) {
+            if let Ok(next) = list::take_step(&list, &lists::model_step(&step)) {
                 (record, list) = (record.step(step), next);
                 break;
             }

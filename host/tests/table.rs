@@ -1,10 +1,10 @@
 //! Document 01's table, its printed listing and its wrong but natural cases, on
 //! core and model.
 
-use squeeze::{GridQuery, Kind, Record, Step};
+use squeeze::{Record, Step};
 use squeeze_compare::tiles::Tile;
 use squeeze_compare::{lists, must, rects};
-use squeeze_model::{listing, pair, rect};
+use squeeze_model::{listing, pair};
 
 /// One line of samples, taken as a row and as a column.
 fn line(avg: &[i32], residual: &[i32], next: &[i32], prev: &[i32]) -> Vec<i32> {
@@ -72,29 +72,8 @@ fn default_plans() {
 
 #[test]
 fn rectangle() {
-    let query = GridQuery {
-        width: 3000,
-        height: 200,
-        hshift: 0,
-        vshift: 0,
-        output: Kind::HF,
-        stored: Kind::LF,
-        group: 256,
-        gx: 9,
-        gy: 0,
-    };
-    assert_eq!(must(rects::compare(&query, 4)), 0);
-    let model = rect::grid_rect(&rect::Query {
-        width: 3000,
-        height: 200,
-        hshift: 0,
-        vshift: 0,
-        output: 2,
-        stored: 1,
-        group: 256,
-        gx: 9,
-        gy: 0,
-    });
+    assert_eq!(must(rects::compare(&rects::DOCUMENT_01, 4)), 0);
+    let model = rects::model_rect(&rects::DOCUMENT_01);
     assert_eq!(model, Ok([256, 0, 256, 200]));
 }
 

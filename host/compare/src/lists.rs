@@ -32,6 +32,16 @@ fn compare_layout(bytes: &[u8]) -> Result<u32, String> {
     Ok(model.err().unwrap_or(0))
 }
 
+/// A step in the model's form.
+pub fn model_step(step: &squeeze::Step) -> Step {
+    Step {
+        horizontal: step.horizontal,
+        in_place: step.in_place,
+        first: step.first.into(),
+        number: step.number.into(),
+    }
+}
+
 fn as_layout(plan: &Plan) -> squeeze::Layout {
     let step = |s: &Step| squeeze::Step {
         horizontal: s.horizontal,

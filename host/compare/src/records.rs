@@ -1,5 +1,6 @@
 //! Records for comparisons: ordinary ones, ones at a limit, damaged ones.
 
+use crate::lists::model_step;
 use crate::random::Random;
 use squeeze::{Record, Step};
 use squeeze_model::list::{self, Channel};
@@ -76,13 +77,7 @@ fn steps(random: &mut Random, record: Record, list: Vec<Channel>, number: usize)
     for _ in 0..number {
         let step = step(random, &list);
         record = record.step(step);
-        let same = list::Step {
-            horizontal: step.horizontal,
-            in_place: step.in_place,
-            first: step.first.into(),
-            number: step.number.into(),
-        };
-        if let Ok(next) = list::take_step(&list, &same) {
+        if let Ok(next) = list::take_step(&list, &model_step(&step)) {
             list = next;
         }
     }

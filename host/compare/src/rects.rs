@@ -2,11 +2,25 @@
 
 use crate::guard::Lent;
 use crate::{expect, raw};
+use squeeze::{GridQuery, Kind};
 use squeeze_model::{rect, refusal};
+
+/// Document 01's own case: HF on LF at (9, 0), start (256, 0), size 256 by 200.
+pub const DOCUMENT_01: GridQuery = GridQuery {
+    width: 3000,
+    height: 200,
+    hshift: 0,
+    vshift: 0,
+    output: Kind::HF,
+    stored: Kind::LF,
+    group: 256,
+    gx: 9,
+    gy: 0,
+};
 
 /// The C function with a rectangle slice of `length` numbers, and the safe
 /// function where that is 4. Gives the answer.
-pub fn compare(query: &squeeze::GridQuery, length: usize) -> Result<u32, String> {
+pub fn compare(query: &GridQuery, length: usize) -> Result<u32, String> {
     let before = vec![0xeeee_eeee_u32; length];
     let (expected, after) = model(query, &before);
     let mut lent = Lent::new(&before, 0x5a5a_0006);
@@ -24,9 +38,9 @@ pub fn compare(query: &squeeze::GridQuery, length: usize) -> Result<u32, String>
     Ok(answer)
 }
 
-/// Questions 4 and 13, then the slice's length.
-fn model(query: &squeeze::GridQuery, before: &[u32]) -> (u32, Vec<u32>) {
-    let answer = rect::grid_rect(&rect::Query {
+/// What the model gives for a query: questions 4 and 13.
+pub fn model_rect(query: &GridQuery) -> Result<[u32; 4], u32> {
+    rect::grid_rect(&rect::Query {
         width: query.width,
         height: query.height,
         hshift: query.hshift,
@@ -36,7 +50,12 @@ fn model(query: &squeeze::GridQuery, before: &[u32]) -> (u32, Vec<u32>) {
         group: query.group,
         gx: query.gx,
         gy: query.gy,
-    });
+    })
+}
+
+/// The same, then the slice's length.
+fn model(query: &GridQuery, before: &[u32]) -> (u32, Vec<u32>) {
+    let answer = model_rect(query);
     match answer {
         Err(number) => (number, before.to_vec()),
         Ok(_) if before.len() != 4 => (refusal::LENGTH, before.to_vec()),
@@ -44,7 +63,7 @@ fn model(query: &squeeze::GridQuery, before: &[u32]) -> (u32, Vec<u32>) {
     }
 }
 
-fn compare_safe(query: &squeeze::GridQuery, expected: u32, rect: &[u32]) -> Result<(), String> {
+fn compare_safe(query: &GridQuery, expected: u32, rect: &[u32]) -> Result<(), String> {
     let answer = squeeze::grid_rect(query);
     let same = match answer {
         Ok(r) => expected == 0 && rect == [r.x, r.y, r.width, r.height],

@@ -1,6 +1,7 @@
 //! Plans on 16 million samples that cost more than the default plan.
 
 use squeeze::{Channel, Record, Step};
+use squeeze_compare::lists::model_step;
 use squeeze_model::list;
 
 /// A plan, and what it is called in the tables.
@@ -33,19 +34,13 @@ impl Draft {
 
     /// With one step more, if it is accepted.
     pub fn step(&self, (horizontal, in_place, first, number): StepWords) -> Option<Draft> {
-        let same = list::Step {
-            horizontal,
-            in_place,
-            first: first as u32,
-            number: number as u32,
-        };
-        let list = list::take_step(&self.list, &same).ok()?;
         let step = Step {
             horizontal,
             in_place,
             first: first as u16,
             number: number as u16,
         };
+        let list = list::take_step(&self.list, &model_step(&step)).ok()?;
         let record = self.record.clone().step(step);
         Some(Draft { record, list })
     }
