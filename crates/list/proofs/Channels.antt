@@ -13,7 +13,7 @@ use Rattle.list.specs.declared.Step.{Step}
 use Rattle.list.specs.Tables.{table}
 use Rattle.list.specs.Lists.{maxChannels, channelAt, channels, range}
 use Rattle.list.specs.Questions.{channelOf, rangeAllowed}
-use Rattle.list.proofs.Tables.{table-length, table-at, table-part, table-within}
+use Rattle.list.proofs.Tables.{table-length, table-at, table-within}
 
 -- question 7
 pub range-inside : (s : Step) (cs : List Channel) → rangeAllowed s cs ≡ true → (1 ≤ s .number) × (s .begin + s .number ≤ length cs)
@@ -39,15 +39,7 @@ module _ (l : ChannelList) where
       let z : 0 + k ≡ k = omega arith in
       sym (table-at (channelAt l) 0 (min (l .count) maxChannels) k _ (omega arith) ∙ ap (channelAt l) z)
 
-  pub channels-range : (s : Step) → s .begin + s .number ≤ length (channels l) → range s (channels l) ≡ table (channelAt l) (s .begin) (s .begin + s .number - s .begin)
-  unfolding channels
-  channels-range s h =
-      let n = channels-length in
-      let z : 0 + s .begin ≡ s .begin = omega arith in
-      let m : s .begin + s .number - s .begin ≡ s .number = omega arith in
-      table-part (channelAt l) 0 (min (l .count) maxChannels) (s .begin) (s .number) (omega arith) ∙ rw (z, m)
-
-  -- the range of any step, as far as the list has it
+  -- a step's range: of any step, as far as the list has it
   pub channels-within : (s : Step) (end : ℕ) → end ≡ min (s .begin + s .number) (min (l .count) maxChannels)
       → range s (channels l) ≡ table (channelAt l) (s .begin) (end - s .begin)
   unfolding channels
@@ -55,3 +47,6 @@ module _ (l : ChannelList) where
       let z : 0 + s .begin ≡ s .begin = omega arith in
       let m : min (s .number) (min (l .count) maxChannels - s .begin) ≡ end - s .begin = omega arith in
       table-within (channelAt l) 0 (min (l .count) maxChannels) (s .begin) (s .number) ∙ rw (z, m)
+
+  pub channels-range : (s : Step) → s .begin + s .number ≤ length (channels l) → range s (channels l) ≡ table (channelAt l) (s .begin) (s .begin + s .number - s .begin)
+  channels-range s h = let n = channels-length in channels-within s (s .begin + s .number) (omega arith)

@@ -5,14 +5,14 @@ use mathlib.Core.List.{List}
 use Prim.Native.Nat.{ℕ, zero, suc, _+_, _<_, _≤_}
 use native.Mathlib.Omega.{arith}
 use borrow.Author.Count.{below-more}
-use borrow.Author.Tests.{ltb-true, ltb-false}
+use borrow.Author.Tests.{ltb-true, ltb-false, lt-ltb}
 use lib.Dec.{ltb}
 use lib.ListN.{length, getD, set, replicate, length-set, length-replicate, List·getD-eq-default}
 use lib.Seq.{ext-getD, getD-set-same, getD-set-other}
 use Rattle.channel.specs.declared.Channel.{Channel}
 use Rattle.list.specs.declared.ChannelList.{ChannelList}
 use Rattle.list.specs.Tables.{padded, map}
-use Rattle.list.specs.Lists.{maxChannels, packed}
+use Rattle.list.specs.Lists.{maxChannels, packed, stored}
 use Rattle.list.specs.Questions.{channelOf}
 use Rattle.list.proofs.Tables.{table-length, table-at}
 use Rattle.list.proofs.Maps.{map-length, map-default}
@@ -82,7 +82,7 @@ filling-none cs =
     }
 
 module _ (cs : List Channel) (ws hs us vs : List ℕ) (k : ℕ) (w : Filling cs ws hs us vs k) where
-  pub filling-more : (c : Channel) → k < maxChannels → c ≡ channelOf cs k
+  filling-more : (c : Channel) → k < maxChannels → c ≡ channelOf cs k
       → Filling cs (set ws k (c .width)) (set hs k (c .height)) (set us k (c .hshift)) (set vs k (c .vshift)) (k + 1)
   filling-more c h e =
       record {
@@ -91,6 +91,15 @@ module _ (cs : List Channel) (ws hs us vs : List ℕ) (k : ℕ) (w : Filling cs 
         hshifts = filled-more maxChannels _ us k (w .hshifts) (c .hshift) h (ap (λ (d : Channel). d .hshift) e ∙ sym (map-default _ cs k _));
         vshifts = filled-more maxChannels _ vs k (w .vshifts) (c .vshift) h (ap (λ (d : Channel). d .vshift) e ∙ sym (map-default _ cs k _));
       }
+
+  -- the same by what `store` leaves
+  pub filling-stored : (c : Channel) → k < maxChannels → c ≡ channelOf cs k → {ws′ hs′ us′ vs′ : List ℕ}
+      → (ws′ ≡ stored k (c .width) ws) × (hs′ ≡ stored k (c .height) hs) × (us′ ≡ stored k (c .hshift) us) × (vs′ ≡ stored k (c .vshift) vs)
+      → Filling cs ws′ hs′ us′ vs′ (k + 1)
+  unfolding stored
+  filling-stored c h e s =
+      let t = lt-ltb k maxChannels h in
+      rw (s .0, s .1, s .2, s .3, t) (filling-more c h e)
 
   pub filling-all : (n : ℕ) → n ≡ length cs → n ≤ k → _≡_ {A = ChannelList} (record { count = n; widths = ws; heights = hs; hshifts = us; vshifts = vs }) (packed cs)
   unfolding packed

@@ -1,6 +1,6 @@
 -- Tables of a function of the index: their length, their entries, what is left of one from an index on, and a part of one.
 -- Assumes nothing.
-use mathlib.Core.Path.{_≡_, refl, ap}
+use mathlib.Core.Path.{_≡_, refl, ap, _∙_}
 use mathlib.Core.Bool.{Bool, true, false}
 use mathlib.Core.List.{List, [], _∷_}
 use Prim.Native.Nat.{ℕ, zero, suc, _+_, _-_, _<_, _≤_, min}
@@ -26,17 +26,7 @@ module _ {ℓ} {A : Type ℓ} (f : ℕ → A) where
   pub table-none : (k n : ℕ) → n ≤ k → table f k (n - k) ≡ []
   table-none k n h = let e : n - k ≡ 0 = omega arith in rw e
 
-  table-take : (k n m : ℕ) → m ≤ n → take m (table f k n) ≡ table f k m
-  table-take k n zero h = refl
-  table-take k zero (suc m) h = absurd (omega arith)
-  table-take k (suc n) (suc m) h = ap (λ (l : List A). f k ∷ l) (table-take (suc k) n m (omega arith))
-
-  pub table-part : (k n b m : ℕ) → b + m ≤ n → take m (drop b (table f k n)) ≡ table f (k + b) m
-  table-part k n zero m h = let e : k + 0 ≡ k = omega arith in rw e (table-take k n m (omega arith))
-  table-part k zero (suc b) m h = absurd (omega arith)
-  table-part k (suc n) (suc b) m h = let e : k + suc b ≡ suc k + b = omega arith in rw e (table-part (suc k) n b m (omega arith))
-
-  -- the same where the table is shorter
+  -- a part of a table, as far as the table goes
   table-first : (k n m : ℕ) → take m (table f k n) ≡ table f k (min m n)
   table-first k n zero = let e : min 0 n ≡ 0 = omega arith in rw e
   table-first k zero (suc m) = let e : min (suc m) 0 ≡ 0 = omega arith in rw e
@@ -47,6 +37,9 @@ module _ {ℓ} {A : Type ℓ} (f : ℕ → A) where
   table-within k zero (suc b) zero = let e : min 0 (0 - suc b) ≡ 0 = omega arith in rw e
   table-within k zero (suc b) (suc m) = let e : min (suc m) (0 - suc b) ≡ 0 = omega arith in rw e
   table-within k (suc n) (suc b) m = let e : k + suc b ≡ suc k + b = omega arith in let z : suc n - suc b ≡ n - b = omega arith in rw (e, z) (table-within (suc k) n b m)
+
+  pub table-part : (k n b m : ℕ) → b + m ≤ n → take m (drop b (table f k n)) ≡ table f (k + b) m
+  table-part k n b m h = let e : min m (n - b) ≡ m = omega arith in table-within k n b m ∙ ap (table f (k + b)) e
 
 -- a test of every entry from k on, where v and the test's answer b were found at k
 module _ {ℓ} {A : Type ℓ} (f : ℕ → A) (p : A → Bool) (k n : ℕ) (v : A) (b : Bool) (h : k < n) (ev : v ≡ f k) (eb : b ≡ p v) where

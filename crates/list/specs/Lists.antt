@@ -3,8 +3,8 @@
 use mathlib.Core.Bool.{Bool, cond}
 use mathlib.Core.List.{List, [], _∷_, _++_}
 use Prim.Native.Nat.{ℕ, _+_, _-_, _/_, min}
-use lib.Dec.{leb}
-use lib.ListN.{length, take, drop, getD}
+use lib.Dec.{leb, ltb}
+use lib.ListN.{length, take, drop, getD, set}
 use Rattle.channel.specs.declared.Channel.{Channel}
 use Rattle.channel.specs.Channel.{isMeta, samples}
 use Rattle.list.specs.declared.ChannelList.{ChannelList}
@@ -38,6 +38,10 @@ packed cs =
       hshifts = padded maxChannels (map (λ (c : Channel). c .hshift) cs);
       vshifts = padded maxChannels (map (λ (c : Channel). c .vshift) cs);
     }
+
+-- an array with entry k set; past its 256 entries there is none to set
+unfoldable pub stored : ℕ → ℕ → List ℕ → List ℕ
+stored k v xs = cond (ltb k maxChannels) (set xs k v) xs
 
 -- ---- a step taken by a list
 -- "the side halved, rounded up", and "the rest of the side"

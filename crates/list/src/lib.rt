@@ -138,6 +138,29 @@ fn residual(c: Channel, horizontal: bool) -> Channel
     raised(with_side(c, horizontal, rest), horizontal)
 }
 
+// A channel as entry `k` of flat arrays; past them nothing is stored.
+pub fn store(
+    c: Channel,
+    k: usize,
+    widths: &mut [u16; 256],
+    heights: &mut [u16; 256],
+    hshifts: &mut [u8; 256],
+    vshifts: &mut [u8; 256],
+)
+    ensures { λ _. ⌜ (now (widths .exit) ≡ Lists.stored k (c .width) (now (widths .entry))) × (now (heights .exit) ≡ Lists.stored k (c .height) (now (heights .entry))) × (now (hshifts .exit) ≡ Lists.stored k (c .hshift) (now (hshifts .entry))) × (now (vshifts .exit) ≡ Lists.stored k (c .vshift) (now (vshifts .entry))) ⌝ }
+{
+    if k < ChannelList::MAX_CHANNELS {
+        let width = c.width;
+        let height = c.height;
+        let hshift = c.hshift;
+        let vshift = c.vshift;
+        widths[k] = width;
+        heights[k] = height;
+        hshifts[k] = hshift;
+        vshifts[k] = vshift;
+    }
+}
+
 impl ChannelList {
     pub const MAX_CHANNELS: usize = 256;
 
@@ -404,10 +427,7 @@ impl ChannelList {
         let mut vshifts = [0u8; 256];
         for k in 0..count {
             let c = self.entry(step, k);
-            widths[k] = c.width;
-            heights[k] = c.height;
-            hshifts[k] = c.hshift;
-            vshifts[k] = c.vshift;
+            store(c, k, &mut widths, &mut heights, &mut hshifts, &mut vshifts);
         }
         ChannelList {
             count,

@@ -11,6 +11,7 @@ ghost use Rattle.numbered.specs.Numbered as Spec;
 ghost use Rattle.numbered.specs.Arrays as Arrays;
 use channel::Channel;
 use list::ChannelList;
+use list::store;
 use numbers::MAX_SIDE;
 use numbers::REFUSED_COUNT;
 use numbers::REFUSED_FORM;
@@ -91,10 +92,7 @@ fn list_of(channels: &[u32]) -> ChannelList
     let mut vshifts = [0u8; 256];
     for k in 0..count {
         let c = channel_at(channels, k);
-        widths[k] = c.width;
-        heights[k] = c.height;
-        hshifts[k] = c.hshift;
-        vshifts[k] = c.vshift;
+        store(c, k, &mut widths, &mut heights, &mut hshifts, &mut vshifts);
     }
     ChannelList {
         count,

@@ -18,6 +18,7 @@ use list::ChannelList;
 use list::Step;
 use list::Stepped;
 use list::halved;
+use list::store;
 use numbers::REFUSED_COUNT;
 use numbers::REFUSED_DEFAULT;
 use numbers::REFUSED_FORM;
@@ -338,10 +339,7 @@ fn tidied(list: ChannelList) -> ChannelList
     let mut vshifts = [0u8; 256];
     for k in 0..count {
         let c = list.channel(k);
-        widths[k] = c.width;
-        heights[k] = c.height;
-        hshifts[k] = c.hshift;
-        vshifts[k] = c.vshift;
+        store(c, k, &mut widths, &mut heights, &mut hshifts, &mut vshifts);
     }
     ChannelList {
         count,

@@ -10,6 +10,7 @@ ghost use Rattle.undo.specs.Undone as Spec;
 use channel::Channel;
 use list::ChannelList;
 use list::Step;
+use list::store;
 use numbers::MAX_SIDE;
 
 // The sum of an average's side and its residual's, cut at the longest side.
@@ -103,10 +104,7 @@ pub fn undone(list: ChannelList, step: Step) -> ChannelList
     let mut vshifts = [0u8; 256];
     for k in 0..left {
         let c = entry(list, step, k);
-        widths[k] = c.width;
-        heights[k] = c.height;
-        hshifts[k] = c.hshift;
-        vshifts[k] = c.vshift;
+        store(c, k, &mut widths, &mut heights, &mut hshifts, &mut vshifts);
     }
     ChannelList {
         count: left,

@@ -4,7 +4,7 @@ use Prim.Native.Nat.{_-_, _≤_}
 use native.Mathlib.Omega.{arith}
 use borrow.Author.Needs.{needs}
 use Rattle.list.specs.Lists.{maxChannels}
-use Rattle.list.proofs.Filled.{Filling, filling-none, filling-more, filling-all}
+use Rattle.list.proofs.Filled.{Filling, filling-none, filling-stored, filling-all}
 use Rattle.numbered.specs.Numbered.{channelsOf}
 use Rattle.numbered.proofs.Fields.{channels-count, channel-is, channel-fits}
 use Rattle.numbered.proofs.list_of.Statement.{statement}
@@ -24,23 +24,8 @@ channel-at-requires c κs =
     let q = c .before .before .before in
     (search needs, channel-fits (q .args .channels .now) (c .before .loop .k) (search needs) (q .pre .1))
 
-mul-widths : tie.Need-mul-widths Inv-loop μ-loop
-mul-widths c = search needs
-
-array-write-widths : tie.Need-array-write-widths Inv-loop μ-loop
-array-write-widths c = search needs
-
-mul-heights : tie.Need-mul-heights Inv-loop μ-loop
-mul-heights c = search needs
-
-array-write-heights : tie.Need-array-write-heights Inv-loop μ-loop
-array-write-heights c = search needs
-
-array-write-hshifts : tie.Need-array-write-hshifts Inv-loop μ-loop
-array-write-hshifts c = search needs
-
-array-write-vshifts : tie.Need-array-write-vshifts Inv-loop μ-loop
-array-write-vshifts c = search needs
+store-requires : tie.Need-store-requires Inv-loop μ-loop
+store-requires c κs = search needs
 
 add-k : tie.Need-add-k Inv-loop μ-loop
 add-k c = search needs
@@ -50,14 +35,11 @@ loop-less c = search needs
 
 loop-again : tie.Need-loop-again Inv-loop μ-loop
 loop-again c =
-    let q = c .before .before in
+    let e = c .before .before .before .before .before in
+    let q = e .before .before in
     let i = q .loop .inv in
-    let ns = q .before .before .args .channels .now in (
-      i .0,
-      omega arith,
-      filling-more _ (q .loop .widths) (q .loop .heights) (q .loop .hshifts) (q .loop .vshifts) (q .loop .k) (i .2) (c .channel-at .result) (omega arith)
-          (c .channel-at .ensures ∙ channel-is ns (q .loop .k) (search needs)),
-    )
+    let is = e .channel-at .ensures ∙ channel-is (q .before .before .args .channels .now) (q .loop .k) (search needs) in
+    (i .0, omega arith, filling-stored _ _ _ _ _ _ (i .2) (e .channel-at .result) (omega arith) is (c .store .ensures))
 
 returns : tie.Need-returns Inv-loop μ-loop
 returns c =
@@ -73,12 +55,7 @@ list-of-spec =
     μ-loop
     loop-holds
     channel-at-requires
-    mul-widths
-    array-write-widths
-    mul-heights
-    array-write-heights
-    array-write-hshifts
-    array-write-vshifts
+    store-requires
     add-k
     loop-less
     loop-again

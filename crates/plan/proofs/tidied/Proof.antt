@@ -5,7 +5,7 @@ use native.Mathlib.Omega.{arith}
 use borrow.Author.Needs.{needs}
 use Rattle.list.specs.Lists.{maxChannels, channels}
 use Rattle.list.proofs.Channels.{channels-at}
-use Rattle.list.proofs.Filled.{Filling, filling-none, filling-more, filling-all}
+use Rattle.list.proofs.Filled.{Filling, filling-none, filling-stored, filling-all}
 use Rattle.plan.proofs.Counts.{counted-all}
 use Rattle.plan.proofs.tidied.Statement.{statement}
 use Rattle.plan.proofs.tidied.Tie as tie
@@ -22,23 +22,8 @@ loop-holds c = (c .pre, omega arith, filling-none _)
 channel-requires : tie.Need-channel-requires Inv-loop μ-loop
 channel-requires c κs = search needs
 
-mul-widths : tie.Need-mul-widths Inv-loop μ-loop
-mul-widths c = search needs
-
-array-write-widths : tie.Need-array-write-widths Inv-loop μ-loop
-array-write-widths c = search needs
-
-mul-heights : tie.Need-mul-heights Inv-loop μ-loop
-mul-heights c = search needs
-
-array-write-heights : tie.Need-array-write-heights Inv-loop μ-loop
-array-write-heights c = search needs
-
-array-write-hshifts : tie.Need-array-write-hshifts Inv-loop μ-loop
-array-write-hshifts c = search needs
-
-array-write-vshifts : tie.Need-array-write-vshifts Inv-loop μ-loop
-array-write-vshifts c = search needs
+store-requires : tie.Need-store-requires Inv-loop μ-loop
+store-requires c κs = search needs
 
 add-k : tie.Need-add-k Inv-loop μ-loop
 add-k c = search needs
@@ -48,14 +33,12 @@ loop-less c = search needs
 
 loop-again : tie.Need-loop-again Inv-loop μ-loop
 loop-again c =
-    let q = c .before .before in
+    let e = c .before .before .before .before .before in
+    let q = e .before .before in
     let i = q .loop .inv in
-    let l = q .before .args .list in (
-      i .0,
-      omega arith,
-      filling-more _ (q .loop .widths) (q .loop .heights) (q .loop .hshifts) (q .loop .vshifts) (q .loop .k) (i .2) (c .channel .result) (omega arith)
-          (c .channel .ensures ∙ channels-at l (q .loop .k) (omega (arith, counted-all l (i .0)))),
-    )
+    let l = q .before .args .list in
+    let is = e .channel .ensures ∙ channels-at l (q .loop .k) (omega (arith, counted-all l (i .0))) in
+    (i .0, omega arith, filling-stored _ _ _ _ _ _ (i .2) (e .channel .result) (omega arith) is (c .store .ensures))
 
 returns : tie.Need-returns Inv-loop μ-loop
 returns c =
@@ -72,12 +55,7 @@ tidied-spec =
     μ-loop
     loop-holds
     channel-requires
-    mul-widths
-    array-write-widths
-    mul-heights
-    array-write-heights
-    array-write-hshifts
-    array-write-vshifts
+    store-requires
     add-k
     loop-less
     loop-again

@@ -5,7 +5,7 @@ use native.Mathlib.Omega.{arith}
 use borrow.Author.Needs.{needs}
 use Rattle.list.specs.Lists.{maxChannels, channels, packed}
 use Rattle.list.proofs.Channels.{channels-length}
-use Rattle.list.proofs.Filled.{Filling, filling-none, filling-more, filling-all}
+use Rattle.list.proofs.Filled.{Filling, filling-none, filling-stored, filling-all}
 use Rattle.undo.specs.Undone.{undone}
 use Rattle.undo.proofs.Entries.{undone-short, undone-length}
 use Rattle.undo.proofs.undone.Statement.{statement}
@@ -58,23 +58,8 @@ entry-requires c κs =
     let a = n .before .before .before .args in
     (omega (arith, n .len .ensures, channels-length (a .list), q .before .if1 .left), omega (arith, n .len .ensures, channels-length (a .list)))
 
-mul-widths : tie.Need-mul-widths Inv-loop μ-loop
-mul-widths c = search needs
-
-array-write-widths : tie.Need-array-write-widths Inv-loop μ-loop
-array-write-widths c = search needs
-
-mul-heights : tie.Need-mul-heights Inv-loop μ-loop
-mul-heights c = search needs
-
-array-write-heights : tie.Need-array-write-heights Inv-loop μ-loop
-array-write-heights c = search needs
-
-array-write-hshifts : tie.Need-array-write-hshifts Inv-loop μ-loop
-array-write-hshifts c = search needs
-
-array-write-vshifts : tie.Need-array-write-vshifts Inv-loop μ-loop
-array-write-vshifts c = search needs
+store-requires : tie.Need-store-requires Inv-loop μ-loop
+store-requires c κs = search needs
 
 add-k : tie.Need-add-k Inv-loop μ-loop
 add-k c = search needs
@@ -84,12 +69,10 @@ loop-less c = search needs
 
 loop-again : tie.Need-loop-again Inv-loop μ-loop
 loop-again c =
-    let q = c .before .before in
-    let i = q .loop .inv in (
-      i .0,
-      omega arith,
-      filling-more _ (q .loop .widths) (q .loop .heights) (q .loop .hshifts) (q .loop .vshifts) (q .loop .k) (i .2) (c .entry .result) (omega arith) (c .entry .ensures),
-    )
+    let e = c .before .before .before .before .before in
+    let q = e .before .before in
+    let i = q .loop .inv in
+    (i .0, omega arith, filling-stored _ _ _ _ _ _ (i .2) (e .entry .result) (omega arith) (e .entry .ensures) (c .store .ensures))
 
 returns-2 : tie.Need-returns-2 Inv-loop μ-loop
 returns-2 c =
@@ -116,12 +99,7 @@ undone-spec =
     sub-left
     loop-holds
     entry-requires
-    mul-widths
-    array-write-widths
-    mul-heights
-    array-write-heights
-    array-write-hshifts
-    array-write-vshifts
+    store-requires
     add-k
     loop-less
     loop-again

@@ -7,7 +7,7 @@ use Rattle.list.specs.Lists as Lists
 use Rattle.list.specs.Lists.{maxChannels, channels}
 use Rattle.list.proofs.Channels.{channels-length}
 use Rattle.list.proofs.Entries.{stepped-length}
-use Rattle.list.proofs.Filled.{Filling, filling-none, filling-more, filling-all}
+use Rattle.list.proofs.Filled.{Filling, filling-none, filling-stored, filling-all}
 use Rattle.list.proofs.ChannelList.stepped.Statement.{statement}
 use Rattle.list.proofs.ChannelList.stepped.Tie as tie
 
@@ -33,23 +33,8 @@ loop-holds c = let a = c .before .before .args in (omega (arith, channels-length
 entry-requires : tie.Need-entry-requires Inv-loop μ-loop
 entry-requires c κs = let a = c .before .before .before .before in (a .pre, omega (arith, channels-length (a .args .self)))
 
-mul-widths : tie.Need-mul-widths Inv-loop μ-loop
-mul-widths c = search needs
-
-array-write-widths : tie.Need-array-write-widths Inv-loop μ-loop
-array-write-widths c = search needs
-
-mul-heights : tie.Need-mul-heights Inv-loop μ-loop
-mul-heights c = search needs
-
-array-write-heights : tie.Need-array-write-heights Inv-loop μ-loop
-array-write-heights c = search needs
-
-array-write-hshifts : tie.Need-array-write-hshifts Inv-loop μ-loop
-array-write-hshifts c = search needs
-
-array-write-vshifts : tie.Need-array-write-vshifts Inv-loop μ-loop
-array-write-vshifts c = search needs
+store-requires : tie.Need-store-requires Inv-loop μ-loop
+store-requires c κs = search needs
 
 add-k : tie.Need-add-k Inv-loop μ-loop
 add-k c = search needs
@@ -59,12 +44,10 @@ loop-less c = search needs
 
 loop-again : tie.Need-loop-again Inv-loop μ-loop
 loop-again c =
-    let q = c .before .before in
-    let i = q .loop .inv in (
-      i .0,
-      omega arith,
-      filling-more _ (q .loop .widths) (q .loop .heights) (q .loop .hshifts) (q .loop .vshifts) (q .loop .k) (i .2) (c .entry .result) (omega arith) (c .entry .ensures),
-    )
+    let e = c .before .before .before .before .before in
+    let q = e .before .before in
+    let i = q .loop .inv in
+    (i .0, omega arith, filling-stored _ _ _ _ _ _ (i .2) (e .entry .result) (omega arith) (e .entry .ensures) (c .store .ensures))
 
 returns : tie.Need-returns Inv-loop μ-loop
 returns c =
@@ -85,12 +68,7 @@ stepped-spec =
     add-count
     loop-holds
     entry-requires
-    mul-widths
-    array-write-widths
-    mul-heights
-    array-write-heights
-    array-write-hshifts
-    array-write-vshifts
+    store-requires
     add-k
     loop-less
     loop-again
