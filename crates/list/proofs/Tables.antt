@@ -27,7 +27,7 @@ module _ {ℓ} {A : Type ℓ} (f : ℕ → A) where
   table-none k n h = let e : n - k ≡ 0 = omega arith in rw e
 
   -- a part of a table, as far as the table goes
-  table-first : (k n m : ℕ) → take m (table f k n) ≡ table f k (min m n)
+  pub table-first : (k n m : ℕ) → take m (table f k n) ≡ table f k (min m n)
   table-first k n zero = let e : min 0 n ≡ 0 = omega arith in rw e
   table-first k zero (suc m) = let e : min (suc m) 0 ≡ 0 = omega arith in rw e
   table-first k (suc n) (suc m) = let e : min (suc m) (suc n) ≡ suc (min m n) = omega arith in rw e (ap (λ (l : List A). f k ∷ l) (table-first (suc k) n m))

@@ -7,7 +7,7 @@ ghost use mathlib.Core.Path.{_≡_};
 ghost use mathlib.Core.Bool.{true, false, cond};
 ghost use mathlib.Core.List.{[]};
 ghost use Prim.Native.Nat.{_+_, _<_, min};
-ghost use lib.ListN.{length};
+ghost use lib.ListN.{length, take};
 ghost use Rattle.channel.specs.Channel.{metaShift, isMeta};
 ghost use Rattle.list.specs.Tables.{all};
 ghost use Rattle.list.specs.Lists as Lists;
@@ -230,16 +230,31 @@ impl ChannelList {
         true
     }
 
+    // `n`, or the count of the channels where that is less.
+    fn within(self, n: usize) -> usize
+        ensures { λ r. ⌜ r ≡ min n (min (self .count) Lists.maxChannels) ⌝ }
+    {
+        let count = self.len();
+        if n < count { n } else { count }
+    }
+
+    // The samples of the first `n` channels.
+    pub fn samples_before(self, n: usize) -> usize
+        ensures { λ r. ⌜ r ≡ Lists.total (take n (Lists.channels self)) ⌝ }
+    {
+        let end = self.within(n);
+        let mut sum = 0u64;
+        for k in 0..end {
+            sum += self.channel(k).samples();
+        }
+        sum as usize
+    }
+
     // All samples of the list.
     pub fn total(self) -> u64
         ensures { λ r. ⌜ r ≡ Lists.total (Lists.channels self) ⌝ }
     {
-        let count = self.len();
-        let mut total = 0u64;
-        for k in 0..count {
-            total += self.channel(k).samples();
-        }
-        total
+        self.samples_before(ChannelList::MAX_CHANNELS) as u64
     }
 
     // Questions 3 to 5.
@@ -357,22 +372,13 @@ impl ChannelList {
         self.judge_step(step)
     }
 
-    // Where a step's range ends, as far as the list has it.
-    fn range_end(self, step: Step) -> usize
-        ensures { λ r. ⌜ r ≡ min (step .begin + step .number) (min (self .count) Lists.maxChannels) ⌝ }
-    {
-        let end = step.begin as usize + step.number as usize;
-        let count = self.len();
-        if end < count { end } else { count }
-    }
-
     // Whether a step leaves each sample where it is: none of its residuals holds
     // one.
     pub fn stays(self, step: Step) -> bool
         ensures { λ r. ⌜ r ≡ Lists.still step (Lists.channels self) ⌝ }
     {
         let begin = step.begin as usize;
-        let end = self.range_end(step);
+        let end = self.within(begin + step.number as usize);
         for k in begin..end {
             if !is_still(self.channel(k), step.horizontal) {
                 return false;

@@ -1,5 +1,4 @@
 pub mod OneTile
-pub mod Fronts
 pub mod Cuts
 pub mod Standing
 pub mod Slices

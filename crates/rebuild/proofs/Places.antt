@@ -169,12 +169,6 @@ module _ (s : Step) (cs : List Channel) (inside : s .begin + s .number ≤ lengt
 
 -- ---- the step at the code's numbers
 module _ (l next : ChannelList) (s : Step) (pyramid : List ℤ) (touched : ℕ) (picture work : List ℤ) (f : StepFits l next s pyramid touched picture work) where
-  pub next-inside : s .begin + s .number ≤ length (channels next)
-  next-inside =
-      let n = stepped-length s (channels l) (f .inside) in
-      let i = f .inside in
-      rw (f .leaves) (omega arith)
-
   module _ (from to moved upto : ℕ) (ef : from ≡ total (take (s .begin) (channels l))) (et : to ≡ total (take (s .begin + s .number) (channels l)))
       (em : moved ≡ cond (s .inplace) to (length picture)) (eu : upto ≡ total (take (s .begin + s .number) (channels next))) where
     picture-long : length picture ≡ total (channels l)

@@ -21,7 +21,7 @@ use Rattle.runs.specs.Parts.{parts, joined}
 use Rattle.runs.specs.Runs.{allBack, stepBack}
 use Rattle.runs.specs.Runs as Runs
 use Rattle.rebuild.specs.Run.{rangeFrom}
-use Rattle.runs.proofs.Shapes.{shaped-length, parts-shaped, joined-parts}
+use Rattle.runs.proofs.Shapes.{joined-append, shaped-length, parts-shaped, joined-parts}
 use Rattle.runs.proofs.OneStep.{arranged, back-of}
 
 parts-nothing : (xs : List ℤ) → length xs ≡ 0 → xs ≡ []
@@ -48,10 +48,6 @@ pub range-front : (h : Bool) (cs : List Channel) (us vs a x r y : List ℤ) → 
     → total (map (average h) cs) ≤ length a → total (map (residual h) cs) ≤ length r → rangeFrom h cs us vs ≡ rangeFrom h cs a r
 unfolding rangeFrom
 range-front h cs us vs a x r y eu ev la lr = rw (eu, ev, parts-front (map (average h) cs) a x la, parts-front (map (residual h) cs) r y lr)
-
-joined-append : (ps qs : List (List ℤ)) → joined (ps ++ qs) ≡ joined ps ++ joined qs
-joined-append [] qs = refl
-joined-append (p ∷ ps) qs = rw (joined-append ps qs) (sym (append-assoc p (joined ps) (joined qs)))
 
 parts-count : (cs : List Channel) (xs : List ℤ) → length xs ≡ total cs → length (parts cs xs) ≡ length cs
 parts-count cs xs e = shaped-length cs (parts cs xs) (parts-shaped cs xs e)

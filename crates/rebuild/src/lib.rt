@@ -102,18 +102,6 @@ fn channel_back(c: Channel, horizontal: bool, avg: &[i32], res: &[i32], out: &mu
     );
 }
 
-// The samples of the first `n` channels.
-fn samples_before(list: ChannelList, n: usize) -> usize
-    requires { ⌜ n ≤ length (channels list) ⌝ }
-    ensures { λ r. ⌜ r ≡ total (take n (channels list)) ⌝ }
-{
-    let mut sum = 0u64;
-    for k in 0..n {
-        sum += list.channel(k).samples();
-    }
-    sum as usize
-}
-
 // The channels of a step's range, to the picture from `start` on: their
 // averages stand at the front of `avg`, their residuals at the front of `res`.
 fn range_back(
@@ -244,10 +232,10 @@ fn step_over(
 {
     let begin = step.begin as usize;
     let end = begin + step.number as usize;
-    let from = samples_before(list, begin);
-    let to = samples_before(list, end);
+    let from = list.samples_before(begin);
+    let to = list.samples_before(end);
     let moved = moved_to(step.inplace, to, picture.len());
-    let averages = samples_before(next, end) - from;
+    let averages = next.samples_before(end) - from;
     let kept = averages + (moved - to);
     let settled = settle(pyramid, touched, from, picture);
     range_over(

@@ -1,7 +1,7 @@
 -- Slices cut into one part a channel and put together again (specs/Parts.antt): parts of the right lengths (`Shaped`) and slices of a list's
 -- total are the same thing, and 32-bit samples stay so. Assumes nothing.
 use mathlib.Core.Path.{_≡_, refl, sym, ap, _∙_}
-use mathlib.Core.List.{List, [], _∷_, _++_}
+use mathlib.Core.List.{List, [], _∷_, _++_, append-assoc}
 use mathlib.Core.Logic.{_⊎_, inl, inr}
 use Prim.Native.Nat.{ℕ, zero, suc, _+_, _-_, _<_, _≤_}
 use native.Mathlib.Omega.{arith}
@@ -64,6 +64,10 @@ parts-joined [] (p ∷ ps) h = absurd h
 parts-joined (c ∷ cs) [] h = absurd h
 parts-joined (c ∷ cs) (p ∷ ps) h =
     rw (take-at p (joined ps) (samples c) (h .0), drop-at p (joined ps) (samples c) (h .0), parts-joined cs ps (h .1))
+
+pub joined-append : (ps qs : List (List ℤ)) → joined (ps ++ qs) ≡ joined ps ++ joined qs
+joined-append [] qs = refl
+joined-append (p ∷ ps) qs = rw (joined-append ps qs) (sym (append-assoc p (joined ps) (joined qs)))
 
 -- ---- parts of a list put together of two
 pub shaped-append : (cs ds : List Channel) (ps qs : List (List ℤ)) → Shaped cs ps → Shaped ds qs → Shaped (cs ++ ds) (ps ++ qs)

@@ -17,7 +17,7 @@ use Rattle.list.proofs.Parts.{parts-whole}
 use Rattle.runs.specs.Parts.{parts, joined}
 use Rattle.runs.specs.Runs as Runs
 use Rattle.runs.specs.Runs.{each, stepForward}
-use Rattle.runs.proofs.Shapes.{Shaped}
+use Rattle.runs.proofs.Shapes.{joined-append, Shaped}
 use Rattle.runs.proofs.Still.{range-averages, range-residuals}
 use Rattle.write.specs.Halves.{halfOf, made}
 use Rattle.write.proofs.Sums.{range-rest}
@@ -32,10 +32,6 @@ parts-append (c ∷ cs) ds xs =
 parts-count : (cs : List Channel) (xs : List ℤ) → length (parts cs xs) ≡ length cs
 parts-count [] xs = refl
 parts-count (c ∷ cs) xs = ap suc (parts-count cs (drop (samples c) xs))
-
-joined-append : (ps qs : List (List ℤ)) → joined (ps ++ qs) ≡ joined ps ++ joined qs
-joined-append [] qs = refl
-joined-append (p ∷ ps) qs = rw (joined-append ps qs) (sym (append-assoc p (joined ps) (joined qs)))
 
 joined-front : (cs : List Channel) (xs : List ℤ) → joined (parts cs xs) ≡ take (total cs) xs
 joined-front [] xs = refl

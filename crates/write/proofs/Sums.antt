@@ -1,9 +1,8 @@
--- Sums of samples: of the first channels of a list held in arrays, of the parts before, in and behind a step's range, and of the two halves of
--- channels, which are the whole. Assumes nothing.
+-- Sums of samples: of the parts before, in and behind a step's range, and of the two halves of channels, which are the whole. Assumes nothing.
 use mathlib.Core.Path.{_≡_, refl, sym, ap, _∙_}
 use mathlib.Core.Bool.{Bool, true, false}
 use mathlib.Core.List.{List, [], _∷_, _++_}
-use Prim.Native.Nat.{ℕ, zero, suc, _+_, _*_, _≤_, min}
+use Prim.Native.Nat.{ℕ, _+_, _*_, _≤_}
 use native.Mathlib.Omega.{arith}
 use native.Mathlib.Nat.{mul-comm, mul-add, mul-le-mul}
 use lib.IntN.{ℤ}
@@ -13,36 +12,17 @@ use Rattle.numbers.specs.Numbers.{maxSide}
 use Rattle.channel.specs.declared.Channel.{Channel}
 use Rattle.channel.specs.Channel as Channel
 use Rattle.channel.specs.Channel.{samples}
-use Rattle.list.specs.declared.ChannelList.{ChannelList}
 use Rattle.list.specs.declared.Step.{Step}
-use Rattle.list.specs.Tables.{table, map}
-use Rattle.list.specs.Lists as Lists
-use Rattle.list.specs.Lists.{maxChannels, channelAt, channels, before, range, after, total}
-use Rattle.list.proofs.Tables.{table-part}
-use Rattle.list.proofs.Channels.{channels-length}
+use Rattle.list.specs.Tables.{map}
+use Rattle.list.specs.Lists.{before, range, after, total}
 use Rattle.list.proofs.Parts.{parts-whole}
+use Rattle.list.proofs.Totals.{total-append}
 use Rattle.line.specs.Forward.{averageCount, residualCount}
 use Rattle.runs.specs.Runs.{linesOf, sizeOf}
-use Rattle.runs.proofs.OneChannel.{average-samples, residual-samples, averages-length, residuals-length}
+use Rattle.runs.proofs.OneChannel.{samples-by, average-samples, residual-samples, averages-length, residuals-length}
 use Rattle.write.specs.Halves.{half, halfOf}
 
--- ---- the first channels of a list
-pub channels-front : (l front : ChannelList) (k : ℕ) → k ≤ length (channels l) → front .count ≡ k
-    → ((j : ℕ) → channelAt front j ≡ channelAt l j) → channels front ≡ take k (channels l)
-unfolding Lists.channels
-channels-front l front k h e same =
-    let n = channels-length l in
-    let m : min (front .count) maxChannels ≡ k = omega arith in
-    rw m (table-same 0 k ∙ sym (table-part (channelAt l) 0 (min (l .count) maxChannels) 0 k (omega arith)))
-  where
-    table-same : (j n : ℕ) → table (channelAt front) j n ≡ table (channelAt l) j n
-    table-same j zero = refl
-    table-same j (suc n) = rw (same j, table-same (suc j) n)
-
-pub total-append : (cs ds : List Channel) → total (cs ++ ds) ≡ total cs + total ds
-total-append [] ds = omega arith
-total-append (c ∷ cs) ds = omega (arith, total-append cs ds)
-
+-- ---- the parts of a list under a step
 -- up to a step's range and up to its end, and the whole
 pub range-end : (s : Step) (cs : List Channel) → total (take (s .begin + s .number) cs) ≡ total (before s cs) + total (range s cs)
 range-end s cs = rw (take-add (s .begin) (s .number) cs) (total-append (before s cs) (range s cs))
@@ -53,11 +33,6 @@ range-rest s cs =
     ∙ omega (arith, total-append (range s cs) (after s cs))
 
 -- ---- halves
-pub samples-by : (h : Bool) (c : Channel) → samples c ≡ linesOf h c * sizeOf h c
-unfolding Channel.samples
-samples-by true c = mul-comm (c .width) (c .height)
-samples-by false c = refl
-
 pub half-residual : (h : Bool) (c : Channel) → samples (half true h c) ≡ linesOf h c * residualCount (sizeOf h c)
 unfolding half
 half-residual h c = residual-samples h c

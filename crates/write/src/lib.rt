@@ -23,16 +23,6 @@ use list::Step;
 use numbers::REFUSED_LENGTH;
 use plan::Steps;
 
-// The samples of a list's first `k` channels.
-fn samples_before(list: ChannelList, k: usize) -> usize
-    requires { ⌜ k ≤ length (channels list) ⌝ }
-    ensures { λ r. ⌜ r ≡ total (take k (channels list)) ⌝ }
-{
-    let mut front = list;
-    front.count = k;
-    front.total() as usize
-}
-
 // The lines of a channel, and the samples along each.
 fn lines_of(horizontal: bool, c: Channel) -> usize
     ensures { λ r. ⌜ (r ≡ linesOf horizontal c) × (r ≤ maxSide) ⌝ }
@@ -140,8 +130,8 @@ fn squeeze_step(list: ChannelList, step: Step, pyramid: &mut [i32], work: &mut [
     ensures { λ _. ⌜ now (pyramid .exit) ≡ stepForward step (channels list) (now (pyramid .entry)) ⌝ }
 {
     let begin = step.begin as usize;
-    let from = samples_before(list, begin);
-    let to = samples_before(list, begin + step.number as usize);
+    let from = list.samples_before(begin);
+    let to = list.samples_before(begin + step.number as usize);
     if step.inplace {
         squeeze_range(list, step, &mut pyramid[from..to], work);
     } else {

@@ -3,14 +3,14 @@ use native.Mathlib.Omega.{arith}
 use borrow.Author.Needs.{needs}
 use lib.ListN.{length}
 use Rattle.list.specs.Lists.{channels}
-use Rattle.rebuild.proofs.Places.{Places, next-inside, places, over-fits, step-taken}
+use Rattle.rebuild.proofs.Places.{Places, places, over-fits, step-taken}
 use Rattle.rebuild.proofs.step_over.Reads as reads
 use Rattle.rebuild.proofs.step_over.Lts as lts
 use Rattle.buffer.proofs.copy.Reads as copy-reads
 use Rattle.rebuild.proofs.larger.Reads as larger-reads
 use Rattle.rebuild.proofs.moved_to.Reads as moved-to-reads
 use Rattle.rebuild.proofs.range_over.Reads as range-over-reads
-use Rattle.rebuild.proofs.samples_before.Reads as samples-before-reads
+use Rattle.list.proofs.ChannelList.samples_before.Reads as samples-before-reads
 use Rattle.rebuild.proofs.settle.Reads as settle-reads
 use Rattle.rebuild.proofs.step_over.Statement.{statement}
 use Rattle.rebuild.proofs.step_over.Tie as tie
@@ -60,9 +60,7 @@ moved-to-requires : tie.Need-moved-to-requires
 moved-to-requires c κs = search needs
 
 samples-before-requires-3 : tie.Need-samples-before-requires-3
-samples-before-requires-3 c κs =
-    let start = c .before .before .before .before .before in
-    next-inside _ _ (start .args .step) _ _ _ _ (start .pre)
+samples-before-requires-3 c κs = search needs
 
 sub-averages : tie.Need-sub-averages
 sub-averages c =

@@ -5,7 +5,8 @@ use Rattle.forward.proofs.Fitted.{averages-fit, residuals-fit}
 use Rattle.runs.specs.Runs as Runs
 use Rattle.runs.specs.Runs.{linesOf, sizeOf}
 use Rattle.write.specs.Halves.{halfOf}
-use Rattle.write.proofs.Sums.{samples-by, half-residual, half-average}
+use Rattle.runs.proofs.OneChannel.{samples-by}
+use Rattle.write.proofs.Sums.{half-residual, half-average}
 use Rattle.write.proofs.put_half.Statement.{statement}
 use Rattle.write.proofs.put_half.Tie as tie
 

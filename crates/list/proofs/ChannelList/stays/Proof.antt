@@ -21,8 +21,14 @@ abbrev μ-loop : tie.MeasureT-loop
 cast-begin : tie.Need-cast-begin Inv-loop μ-loop
 cast-begin c = search needs
 
-range-end-requires : tie.Need-range-end-requires Inv-loop μ-loop
-range-end-requires c κs = search needs
+cast-within : tie.Need-cast-within Inv-loop μ-loop
+cast-within c = search needs
+
+add-within : tie.Need-add-within Inv-loop μ-loop
+add-within c = search needs
+
+within-requires : tie.Need-within-requires Inv-loop μ-loop
+within-requires c κs = search needs
 
 loop-holds : tie.Need-loop-holds Inv-loop μ-loop
 loop-holds c = refl
@@ -39,8 +45,8 @@ returns c =
     let t = c .before .is-still in
     let v = c .before .before .channel in
     let q = c .before .before .before in
-    let e = q .before .before .range-end in
-    let s = q .before .before .before .before in
+    let e = q .before .before .within in
+    let s = q .before .before .before .before .before in
     rw (channels-within (s .args .self) (s .args .step) (e .result) (e .ensures))
     (all-stop (channelAt (s .args .self)) (isStill (s .args .step .horizontal)) (q .before .loop .k) _ (v .result) (t .result) (q .loop-test .taken) (v .ensures) (t .ensures)
     (not-true (t .result) (c .if1 .taken))
@@ -57,7 +63,7 @@ loop-again c =
     let t = c .before .is-still in
     let v = c .before .before .channel in
     let q = c .before .before .before in
-    let s = q .before .before .before .before in
+    let s = q .before .before .before .before .before in
     all-next (channelAt (s .args .self)) (isStill (s .args .step .horizontal)) (q .before .loop .k) _ (v .result) (t .result) (q .loop-test .taken) (v .ensures) (t .ensures)
     (not-false (t .result) (c .if1 .left))
     ∙ q .before .loop .inv
@@ -66,8 +72,8 @@ returns-2 : tie.Need-returns-2 Inv-loop μ-loop
 unfolding Lists.still
 returns-2 c =
     let q = c .before in
-    let e = q .before .range-end in
-    let s = q .before .before .before in
+    let e = q .before .within in
+    let s = q .before .before .before .before in
     rw (channels-within (s .args .self) (s .args .step) (e .result) (e .ensures))
     (rw (table-none (channelAt (s .args .self)) (q .loop .k) _ (c .loop-test .left)) at (q .loop .inv))
 
@@ -78,7 +84,9 @@ stays-spec =
     Inv-loop
     μ-loop
     cast-begin
-    range-end-requires
+    cast-within
+    add-within
+    within-requires
     loop-holds
     channel-requires
     is-still-requires

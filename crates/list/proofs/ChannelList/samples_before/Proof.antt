@@ -5,25 +5,28 @@ use Prim.Native.Nat.{_+_, _*_, _-_, _≤_}
 use native.Mathlib.Omega.{arith}
 use borrow.Author.Needs.{needs}
 use lib.ListN.{take}
 use Rattle.list.specs.Tables.{table}
-use Rattle.list.specs.Lists.{maxChannels, channelAt, channels, total}
+use Rattle.list.specs.Lists as Lists
 use Rattle.list.proofs.Tables.{table-none}
+use Rattle.list.proofs.Channels.{channels-front}
 use Rattle.list.proofs.Totals.{mostSamples, samples-most, total-next}
-use Rattle.rebuild.proofs.Fronts.{front-count, front-all}
-use Rattle.rebuild.proofs.samples_before.Statement.{statement}
-use Rattle.rebuild.proofs.samples_before.Tie as tie
+use Rattle.list.proofs.ChannelList.samples_before.Statement.{statement}
+use Rattle.list.proofs.ChannelList.samples_before.Tie as tie
 
 abbrev Inv-loop : tie.InvT-loop
-Inv-loop list n sum₀ k₀ sum k =
-    (k ≤ n) × (sum ≤ k * mostSamples) × (n ≤ maxChannels) × (sum + total (table (channelAt list) k (n - k)) ≡ total (take n (channels list)))
+Inv-loop self n end sum₀ k₀ sum k =
+    (k ≤ end) × (end ≤ Lists.maxChannels) × (sum ≤ k * mostSamples) × (sum + Lists.total (table (Lists.channelAt self) k (end - k)) ≡ Lists.total (take n (Lists.channels self)))
 
 abbrev μ-loop : tie.MeasureT-loop
-μ-loop list n sum₀ k₀ sum k = n - k
+μ-loop self n end sum₀ k₀ sum k = end - k
+
+within-requires : tie.Need-within-requires Inv-loop μ-loop
+within-requires c κs = search needs
 
 loop-holds : tie.Need-loop-holds Inv-loop μ-loop
 loop-holds c =
-    let a = c .args in
-    (omega arith, omega arith, front-count (a .list) (a .n) (c .pre), rw (front-all (a .list) (a .n) (c .pre)) (omega arith))
+    let a = c .before .args in
+    (omega arith, omega (arith, c .within .ensures), omega arith, rw (channels-front (a .self) (a .n) (c .within .result) (c .within .ensures)) (omega arith))
 
 channel-requires : tie.Need-channel-requires Inv-loop μ-loop
 channel-requires c κs = search needs
@@ -47,9 +50,9 @@ loop-again c =
     let v = c .before .channel in
     let q = c .before .before .before in (
       omega arith,
+      q .loop .inv .1,
       omega (arith, samples-most (v .result) (v .ok .1 .1 .0 .1) (v .ok .1 .1 .1 .0 .1)),
-      q .loop .inv .2,
-      total-next (channelAt (q .before .args .list)) (q .loop .k) (q .before .args .n) (q .loop .sum) (c .samples .result) (v .result)
+      total-next (Lists.channelAt (q .before .before .args .self)) (q .loop .k) _ (q .loop .sum) (c .samples .result) (v .result)
           (c .before .before .loop-test .taken) (v .ensures) (c .samples .ensures)
           ∙ q .loop .inv .3,
     )
@@ -57,7 +60,7 @@ loop-again c =
 returns : tie.Need-returns Inv-loop μ-loop
 returns c =
     let q = c .before in
-    let e = table-none (channelAt (q .before .args .list)) (q .loop .k) (q .before .args .n) (c .loop-test .left) in
+    let e = table-none (Lists.channelAt (q .before .before .args .self)) (q .loop .k) (q .before .within .result) (c .loop-test .left) in
     let s = rw e at (q .loop .inv .3) in
     omega arith
 
@@ -67,6 +70,7 @@ samples-before-spec =
     (tie.spec
     Inv-loop
     μ-loop
+    within-requires
     loop-holds
     channel-requires
     samples-requires
