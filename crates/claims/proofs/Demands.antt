@@ -15,14 +15,11 @@ use Rattle.channel.specs.declared.Channel.{Channel}
 use Rattle.list.specs.declared.ChannelList.{ChannelList}
 use Rattle.list.specs.declared.Step.{Step}
 use Rattle.list.specs.Lists as Lists
-use Rattle.list.specs.Lists.{maxChannels, channels, stepped, total}
+use Rattle.list.specs.Lists.{channels, stepped, total}
 use Rattle.list.specs.Questions.{judgeStep}
-use Rattle.list.proofs.Acceptance.{count-inside}
 use Rattle.list.proofs.Asking.{passed}
-use Rattle.list.proofs.Packed.{channels-packed}
 use Rattle.list.proofs.Totals.{stepped-total}
 use Rattle.line.specs.Forward.{Samples}
-use Rattle.tile.specs.Call as Tile
 use Rattle.tile.specs.Call.{Call}
 use Rattle.tile.proofs.Fitted.{refused-after}
 use Rattle.tile.proofs.AsStandard.{tile-is-standard}
@@ -33,7 +30,6 @@ use Rattle.plan.specs.Steps.{steps}
 use Rattle.plan.specs.Plans as Plans
 use Rattle.plan.specs.Plans.{judgePlan, judgeSteps, steppedAll, meant, rewritten}
 use Rattle.plan.proofs.Runs.{none-refused, steps-total}
-use Rattle.plan.proofs.Answers.{rewritten-accepted}
 use Rattle.plan.proofs.Judged.{plan-answer, meant-judged, reached-back}
 use Rattle.plan.proofs.AsStandard.{list-standard}
 use Rattle.plan.proofs.DefaultStandard.{default-standard, standard-default, standard-sides, dots-standard, dots-ours}
@@ -41,7 +37,7 @@ use Rattle.record.specs.declared.Record.{Record}
 use Rattle.record.specs.Reading as Reading
 use Rattle.record.specs.Reading.{answerOf}
 use Rattle.record.specs.Records as Records
-use Rattle.record.specs.Records.{readAnswer, readOf, channelsOf, stepsOf, reachedOf, writeAnswer, writtenOf, writtenBytes}
+use Rattle.record.specs.Records.{readAnswer, readOf, channelsOf, stepsOf, writeAnswer, writtenOf, writtenBytes}
 use Rattle.record.proofs.Readings.{read-answer, read-judged, list-back, steps-back}
 use Rattle.record.proofs.ReadWritten.{read-written}
 use Rattle.record.proofs.WrittenRead.{written-read, one-record}
@@ -52,12 +48,12 @@ use Rattle.listing.specs.Listing.{listing, listAnswer, textAfter, sizeAfter, ju
 use Rattle.numbered.proofs.AsWritten as Numbered
 use Rattle.numbered.proofs.ReadBack as NumbersBack
 use Rattle.runs.specs.Runs.{isTaken, layout}
-use Rattle.runs.specs.Claim.{Fills, ExactlyOne}
+use Rattle.runs.specs.Claim.{Fills}
 use Rattle.runs.proofs.Whole.{squeezed-fills, squeezed-rebuilds, rebuilt-fills, rebuilt-squeezes, exactly-one}
 use Rattle.runs.proofs.AsStandard.{run-standard}
 use Rattle.squeeze.specs.GridRect as Rect
 use Rattle.squeeze.specs.Entry.{fits, answer, pictureOf, pyramidOf, workOf}
-use Rattle.claims.specs.Demands.{field4097, RefusalKeeps, ListIsStandard, DefaultIsStandard, PictureIsStandard, ProgramRule, WriterGivesIt, WrittenRebuilds, RebuiltWrites, TilesTogether, Demands}
+use Rattle.claims.specs.Demands.{field4097, RefusalKeeps, ListIsStandard, DefaultIsStandard, PictureIsStandard, ProgramRule, WriterGivesIt, WrittenRebuilds, RebuiltWrites, Demands}
 
 -- ---- the layout: refused steps or not, the sample total stays; accepted steps reach the list that `steppedAll` says
 layout-total : (ss : List Step) (cs : List Channel) → total (layout ss cs) ≡ total cs

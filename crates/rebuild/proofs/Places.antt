@@ -17,7 +17,7 @@ use Rattle.list.specs.Lists as Lists
 use Rattle.list.specs.Lists.{channels, average, residual, before, range, after, stepped, total}
 use Rattle.list.proofs.Maps.{map-length}
 use Rattle.list.proofs.Parts.{parts-whole}
-use Rattle.list.proofs.Entries.{length-range, stepped-length}
+use Rattle.list.proofs.Entries.{length-range}
 use Rattle.list.proofs.Totals.{total-append, parts-total, stepped-total}
 use Rattle.buffer.specs.Buffer.{copied}
 use Rattle.runs.specs.Parts.{parts}

@@ -3,9 +3,8 @@
 use mathlib.Core.Path.{_≡_, refl, sym, ap, _∙_}
 use mathlib.Core.Bool.{true, and-eq-true-iff}
 use mathlib.Core.List.{List, [], _∷_, _++_}
-use Prim.Native.Nat.{ℕ, zero, suc, _+_, _-_, _<_, _≤_, min}
+use Prim.Native.Nat.{ℕ, zero, suc, _+_, _-_, _≤_, min}
 use native.Mathlib.Omega.{arith}
-use native.Mathlib.Numerals.{add-one}
 use borrow.Author.Tests.{eq-eqb, leb-true}
 use lib.IntN.{ℤ}
 use lib.ListN.{length}
@@ -22,7 +21,6 @@ use Rattle.list.specs.Accepted.{Accepted, StepAccepted}
 use Rattle.list.proofs.Acceptance.{step-accepted}
 use Rattle.list.proofs.Packed.{channels-packed}
 use Rattle.list.proofs.Tables.{table-rest, table-none}
-use Rattle.list.proofs.Totals.{stepped-total}
 use Rattle.plan.specs.declared.Steps.{Steps}
 use Rattle.plan.specs.Steps as S
 use Rattle.plan.specs.Steps.{stepAt, steps}

@@ -13,7 +13,6 @@ ghost use Rattle.list.specs.Lists.{channels, average, range, total};
 ghost use Rattle.line.specs.Forward.{averageCount};
 ghost use Rattle.tile.specs.Call as Call;
 ghost use Rattle.plan.specs.Steps as Spec;
-ghost use Rattle.plan.specs.Plans as Plans;
 ghost use Rattle.buffer.specs.Buffer.{copied};
 ghost use Rattle.runs.specs.Runs.{linesOf, sizeOf, channelBack, stepBack, rebuilt};
 ghost use Rattle.rebuild.specs.Rebuild.{answerOf, pictureAfter, workAfter};

@@ -1,6 +1,6 @@
 -- Slices cut into one part a channel and put together again (specs/Parts.antt): parts of the right lengths (`Shaped`) and slices of a list's
 -- total are the same thing, and 32-bit samples stay so. Assumes nothing.
-use mathlib.Core.Path.{_≡_, refl, sym, ap, _∙_}
+use mathlib.Core.Path.{_≡_, refl, sym, ap}
 use mathlib.Core.List.{List, [], _∷_, _++_, append-assoc}
 use mathlib.Core.Logic.{_⊎_, inl, inr}
 use Prim.Native.Nat.{ℕ, zero, suc, _+_, _-_, _<_, _≤_}

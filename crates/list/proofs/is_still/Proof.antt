@@ -1,5 +1,4 @@
 -- `is_still` meets its contract: the side decides. Assumes nothing.
-use mathlib.Core.Path.{refl}
 use Rattle.list.specs.Lists.{isStill}
 use borrow.Author.Needs.{needs}
 use Rattle.list.proofs.is_still.Statement.{statement}

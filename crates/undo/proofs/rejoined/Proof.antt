@@ -1,6 +1,5 @@
 -- `rejoined` meets its contract, direction by direction. Assumes nothing.
-use mathlib.Core.Path.{_≡_, refl, sym, ap, _∙_}
-use native.Mathlib.Omega.{arith}
+use mathlib.Core.Path.{_∙_}
 use Rattle.undo.specs.Undone as U
 use borrow.Author.Needs.{needs}
 use Rattle.undo.proofs.rejoined.Statement.{statement}

@@ -1,6 +1,4 @@
 -- `sunk` meets its contract: a meta channel stays, and of any other one shift is less by one. Assumes nothing.
-use mathlib.Core.Path.{_≡_, refl, sym, ap, _∙_}
-use native.Mathlib.Omega.{arith}
 use Rattle.undo.specs.Undone as U
 use borrow.Author.Needs.{needs}
 use Rattle.undo.proofs.sunk.Statement.{statement}
