@@ -14,13 +14,11 @@ use Rattle.numbers.specs.Numbers.{refusedOutside, refusedField}
 use Rattle.channel.specs.declared.Channel.{Channel}
 use Rattle.list.specs.declared.ChannelList.{ChannelList}
 use Rattle.list.specs.declared.Step.{Step}
-use Rattle.list.specs.Lists as Lists
 use Rattle.list.specs.Lists.{channels, stepped, total}
 use Rattle.list.specs.Questions.{judgeStep}
 use Rattle.list.proofs.Asking.{passed}
 use Rattle.list.proofs.Totals.{stepped-total}
 use Rattle.line.specs.Forward.{Samples}
-use Rattle.tile.specs.Call.{Call}
 use Rattle.tile.proofs.Fitted.{refused-after}
 use Rattle.tile.proofs.AsStandard.{tile-is-standard}
 use Rattle.cuts.proofs.Together.{tiles-together}
@@ -33,16 +31,14 @@ use Rattle.plan.proofs.Runs.{none-refused, steps-total}
 use Rattle.plan.proofs.Judged.{plan-answer, meant-judged, reached-back}
 use Rattle.plan.proofs.AsStandard.{list-standard}
 use Rattle.plan.proofs.DefaultStandard.{default-standard, standard-default, standard-sides, dots-standard, dots-ours}
-use Rattle.record.specs.declared.Record.{Record}
 use Rattle.record.specs.Reading as Reading
 use Rattle.record.specs.Reading.{answerOf}
 use Rattle.record.specs.Records as Records
-use Rattle.record.specs.Records.{readAnswer, readOf, channelsOf, stepsOf, writeAnswer, writtenOf, writtenBytes}
-use Rattle.record.proofs.Readings.{read-answer, read-judged, list-back, steps-back}
+use Rattle.record.specs.Records.{readAnswer, channelsOf, stepsOf, writeAnswer, writtenOf, writtenBytes}
+use Rattle.record.proofs.Readings.{steps-judged}
 use Rattle.record.proofs.ReadWritten.{read-written}
 use Rattle.record.proofs.WrittenRead.{written-read, one-record}
 use Rattle.listing.specs.Listing as L
-use Rattle.listing.specs.Text as Text
 use Rattle.listing.specs.Text.{refusedWord, numbered}
 use Rattle.listing.specs.Listing.{listing, listAnswer, textAfter, sizeAfter, judgedBytes, printed}
 use Rattle.numbered.proofs.AsWritten as Numbered
@@ -71,15 +67,6 @@ layout-reached (s ∷ ss) cs h =
     rw (a .0) (layout-reached ss (stepped s cs) (a .1))
 
 -- ---- a call that is accepted
-module _ (bytes : List ℕ) (z : readAnswer bytes ≡ 0) where
-  read-ok : readOf bytes .answer ≡ 0
-  read-ok = read-answer bytes (readOf bytes) refl ∙ z
-
-  steps-judged : judgeSteps (stepsOf bytes) (channelsOf bytes) ≡ 0
-  steps-judged =
-      rw (list-back bytes (readOf bytes) refl read-ok, steps-back bytes (readOf bytes) refl read-ok) at
-      (meant-judged (readOf bytes .list) (readOf bytes .steps) (read-judged bytes (readOf bytes) refl read-ok))
-
 module _ (bytes : List ℕ) (read filled work : List ℤ) (h : answer bytes read filled work ≡ 0) where
   asked : (readAnswer bytes ≡ 0) × (fits bytes read && (fits bytes filled && fits bytes work) ≡ true)
   unfolding answer

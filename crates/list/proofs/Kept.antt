@@ -64,6 +64,13 @@ module _ (s : Step) (cs : List Channel) where
         let p = parts-all shiftsAllowed allowed in
         stepped-all shiftsAllowed (p .0) (parts-allowed halved) (parts-allowed rest) (p .2)
 
+    -- a list without meta channels stays one
+    pub stepped-plain : all plain cs ≡ true → all plain (stepped s cs) ≡ true
+    unfolding average residual
+    stepped-plain a =
+        let p = parts-all plain a in
+        stepped-all plain (p .0) (parts-kind halved not (p .1)) (parts-kind rest not (p .1)) (p .2)
+
     module _ (first : metaFirst cs ≡ true) where
       -- a meta range has meta channels before it
       metas-up : isMeta (channelOf cs (s .begin)) ≡ true → (all isMeta (before s cs) ≡ true) × (all isMeta (range s cs) ≡ true)

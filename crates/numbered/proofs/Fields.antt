@@ -10,6 +10,7 @@ use borrow.Author.Tests.{leb-true, ltb-true}
 use Rattle.numbers.specs.Numbers.{maxSide}
 use Rattle.channel.specs.declared.Channel.{Channel}
 use Rattle.channel.specs.Channel.{metaShift, sidesFit}
+use Rattle.channel.proofs.Sides.{fit-sides}
 use Rattle.list.specs.Tables.{table, all}
 use Rattle.list.specs.Questions.{channelOf}
 use Rattle.list.proofs.Tables.{table-length, table-at}
@@ -34,17 +35,11 @@ pub record Fit (c : Channel) : Type 0 where
   pub hshift : c .hshift ≤ metaShift
   pub vshift : c .vshift ≤ metaShift
 
-pub sides-fit : (c : Channel) → sidesFit c ≡ true → (c .width ≤ maxSide) × (c .height ≤ maxSide)
-unfolding sidesFit
-sides-fit c h =
-    let b = and-eq-true-iff (leb (c .width) maxSide) (leb (c .height) maxSide) .0 h in
-    (leb-true (c .width) maxSide (b .0), leb-true (c .height) maxSide (b .1))
-
 pub channel-fit : (c : Channel) → fieldsFit c ≡ true → Fit c
 unfolding fieldsFit
 channel-fit c h =
     let b = and-eq-true-iff (sidesFit c) (leb (c .hshift) metaShift && leb (c .vshift) metaShift) .0 h in
-    let sides = sides-fit c (b .0) in
+    let sides = fit-sides c (b .0) in
     let shifts = and-eq-true-iff (leb (c .hshift) metaShift) (leb (c .vshift) metaShift) .0 (b .1) in
     record {
       width = sides .0;

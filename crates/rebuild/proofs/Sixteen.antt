@@ -13,11 +13,11 @@ use denote.Array.{each}
 use Rattle.numbers.specs.Numbers.{maxSide}
 use Rattle.channel.specs.declared.Channel.{Channel}
 use Rattle.channel.specs.Channel.{sidesFit}
+use Rattle.channel.proofs.Sides.{sides-fit}
 use Rattle.list.specs.declared.ChannelList.{ChannelList}
 use Rattle.list.specs.Tables.{table, all}
 use Rattle.list.specs.Lists as Lists
 use Rattle.list.specs.Lists.{maxChannels, channelAt, channels}
-use Rattle.undo.proofs.OneChannel.{sides-fit}
 
 sides-below : (xs : List ℕ) (us : List Val) → shadow (each ℕ (UInt w16 .own) (map (λ v. v) xs) us) → (j : ℕ) → getD xs j 0 ≤ maxSide
 sides-below [] us g j = omega arith

@@ -9,4 +9,5 @@ pub mod Readings
 pub mod Outcomes
 pub mod Words
 pub mod ReadWritten
+pub mod RecordOf
 pub mod WrittenRead

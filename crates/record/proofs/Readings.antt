@@ -1,5 +1,5 @@
--- What `read_record` gives (specs/Records.antt): its answer, and of a record that is accepted the list and the steps that its fields hold.
--- Assumes nothing.
+-- What `read_record` gives (specs/Records.antt): its answer, and of a record that is accepted the list and the steps that its fields hold, which the
+-- questions accept. Assumes nothing.
 use mathlib.Core.Path.{_≡_, refl, sym, ap, _∙_}
 use mathlib.Core.Bool.{Bool, true, false}
 use mathlib.Core.List.{List}
@@ -10,17 +10,19 @@ use borrow.Author.Tests.{eqb-true}
 use Rattle.list.specs.declared.ChannelList.{ChannelList}
 use Rattle.list.specs.Lists as Lists
 use Rattle.list.specs.Lists.{channels}
+use Rattle.list.specs.Accepted.{Accepted}
 use Rattle.list.proofs.Packed.{channels-packed}
+use Rattle.list.proofs.Acceptance.{list-accepted}
 use Rattle.plan.specs.Steps as S
 use Rattle.plan.specs.Steps.{steps}
-use Rattle.plan.specs.Plans.{judgePlan}
+use Rattle.plan.specs.Plans.{judgePlan, judgeSteps}
 use Rattle.plan.proofs.Runs.{none-refused}
 use Rattle.plan.proofs.Packed.{packed-count, steps-packed}
-use Rattle.plan.proofs.Judged.{judged-counts}
+use Rattle.plan.proofs.Judged.{judged-list, judged-counts, meant-judged}
 use Rattle.record.specs.declared.Record.{Record}
 use Rattle.record.specs.Reading.{formOf}
 use Rattle.record.specs.Records as R
-use Rattle.record.specs.Records.{readAnswer, readOf}
+use Rattle.record.specs.Records.{readAnswer, readOf, channelsOf, stepsOf}
 
 module _ (bytes : List ℕ) (f : Record) (e : f ≡ readOf bytes) where
   pub read-answer : f .answer ≡ readAnswer bytes
@@ -58,3 +60,18 @@ module _ (bytes : List ℕ) (f : Record) (e : f ≡ readOf bytes) where
     steps-back =
         ap steps steps-is
         ∙ steps-packed (formOf bytes .steps) (omega (arith, packed-count (f .steps) (formOf bytes .steps) steps-is, judged-counts (f .list) (f .steps) read-judged .1))
+
+-- a record that is accepted: its channels and the steps that are meant
+module _ (bytes : List ℕ) (z : readAnswer bytes ≡ 0) where
+  read-ok : readOf bytes .answer ≡ 0
+  read-ok = read-answer bytes (readOf bytes) refl ∙ z
+
+  pub channels-accepted : Accepted (channelsOf bytes)
+  channels-accepted =
+      rw (list-back bytes (readOf bytes) refl read-ok) at
+      (list-accepted (readOf bytes .list) (judged-list (readOf bytes .list) (readOf bytes .steps) (read-judged bytes (readOf bytes) refl read-ok)))
+
+  pub steps-judged : judgeSteps (stepsOf bytes) (channelsOf bytes) ≡ 0
+  steps-judged =
+      rw (list-back bytes (readOf bytes) refl read-ok, steps-back bytes (readOf bytes) refl read-ok) at
+      (meant-judged (readOf bytes .list) (readOf bytes .steps) (read-judged bytes (readOf bytes) refl read-ok))

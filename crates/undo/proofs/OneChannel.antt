@@ -1,29 +1,18 @@
 -- One channel made again from its average and its residual, and the sides of both, which are no longer than its own. Assumes nothing.
 use mathlib.Core.Path.{_≡_, refl, sym, ap, _∙_}
-use mathlib.Core.Bool.{Bool, true, false, cond, and-eq-true-iff}
+use mathlib.Core.Bool.{Bool, true, false, cond}
 use Prim.Native.Nat.{ℕ, _+_, _-_, _≤_}
 use native.Mathlib.Omega.{arith}
-use lib.Dec.{leb}
-use borrow.Author.Tests.{leb-true, le-leb}
 use Rattle.numbers.specs.Numbers.{maxSide}
 use Rattle.channel.specs.declared.Channel.{Channel}
 use Rattle.channel.specs.Channel as C
 use Rattle.channel.specs.Channel.{isMeta, shiftsAllowed, sidesFit}
+use Rattle.channel.proofs.Sides.{fit-sides, sides-fit}
 use Rattle.list.specs.Lists as L
 use Rattle.list.specs.Lists.{halved, raised, sided, average, residual}
 use Rattle.list.proofs.Shifts.{lifted, raised-meta, raised-plain, part-kind}
 use Rattle.undo.specs.Undone as U
 use Rattle.undo.specs.Undone.{rejoinedSide, sunk, rejoined}
-
-fit-sides : (c : Channel) → sidesFit c ≡ true → (c .width ≤ maxSide) × (c .height ≤ maxSide)
-unfolding C.sidesFit
-fit-sides c e =
-    let b = and-eq-true-iff (leb (c .width) maxSide) (leb (c .height) maxSide) .0 e in
-    (leb-true _ _ (b .0), leb-true _ _ (b .1))
-
-pub sides-fit : (c : Channel) → c .width ≤ maxSide → c .height ≤ maxSide → sidesFit c ≡ true
-unfolding C.sidesFit
-sides-fit c w h = rw (le-leb (c .width) maxSide w, le-leb (c .height) maxSide h)
 
 side-whole : (side : ℕ) → side ≤ maxSide → rejoinedSide (halved side) (L.rest side) ≡ side
 side-whole side h = omega arith
