@@ -1,13 +1,13 @@
 #!/usr/bin/env python3
 """Makes crates/list_test/stdin: lists, steps and plans with the answers they must get.
 
-usage: tests/lists.py LIST.TXT DEFAULT.TXT > crates/list_test/stdin
+usage: tests/lists.py LIST.TXT DEFAULT.TXT SMALL.TXT > crates/list_test/stdin
 
-LIST.TXT and DEFAULT.TXT are answers of the published Rust, one case to a line: `list CHANNELS | STEPS => ok LIST /
-LIST ..`, where a refused step ends the answer with `error NAME`, and `default CHANNELS => ok STEPS` or `panic`. A
-channel is `W H HS VS` or `W H m m`, a step `h|v in|out FIRST NUMBER`. Document 01 refuses some of what the Rust lets
-through: INSTEAD has every such difference. The other cases are made here by document 01's rules (rules.py), those that it
-names itself as rows with the answer written out.
+The three files are answers of the published Rust, one case to a line: `list CHANNELS | STEPS => ok LIST / LIST ..`,
+where a refused step ends the answer with `error NAME`, `default CHANNELS => ok STEPS` or `panic`, and `small CHANNEL =>
+true` or `false` of `is_meta_or_small(8)` (small.py makes these). A channel is `W H HS VS` or `W H m m`, a step `h|v in|out
+FIRST NUMBER`. Document 01 refuses some of what the Rust lets through: INSTEAD has every such difference. The other cases
+are made here by the papers' rules (rules.py), those that they name themselves as rows with the answer written out.
 
 The stream is samples of four bytes, least byte first. A case is its source (1 the Rust, 2 the rules), its kind (1 to 5
 as below), how many samples follow, and these:
@@ -26,7 +26,8 @@ import struct
 import sys
 
 import rules
-from rules import MAX_CHANNELS, MAX_SAMPLES, MAX_SHIFT, MAX_STEPS, META, STOP, default_plan, is_meta, total
+from rules import (MAX_CHANNELS, MAX_SAMPLES, MAX_SHIFT, MAX_STEPS, META, coarse_count, default_plan, is_meta,
+                   total)
 
 RUST, OWN = 1, 2
 STEP, PLAN, DEFAULT, COARSE, MEANT = 1, 2, 3, 4, 5
@@ -149,9 +150,7 @@ def put_meant(flat, plan):
 
 
 def put_coarse(flat):
-    sides = [max(c[:2]) for c in meant(flat)]
-    coarse = [side <= STOP for side in sides]
-    put(OWN, COARSE, list_samples(flat), [coarse.index(False) if False in coarse else len(coarse)])
+    put(OWN, COARSE, list_samples(flat), [coarse_count(meant(flat))])
 
 
 # ---- the Rust's answers
@@ -210,6 +209,12 @@ def rust_default(text):
     answer = instead(5, channels) or said == 'panic' and instead(11, channels)
     steps = [] if answer else steps_of(said.removeprefix('ok'))
     put_default(RUST, held(channels), answer, plan_of(steps))
+
+
+# A channel is coarse if the Rust's predicate says so: the count of that channel alone.
+def rust_small(text):
+    channel, said = text.removeprefix('small ').split('=>')
+    put(RUST, COARSE, list_samples(held(channels_of(channel))), [{'true': 1, 'false': 0}[said.strip()]])
 
 
 # ---- cases of our own, by the rules above
@@ -334,6 +339,31 @@ def plan_rows():
         put_meant(flat, plan)
 
 
+# Channels, steps (none: the default plan) and the coarse count of the list that they leave (document 02, A.2).
+COARSE_ROWS = """
+300 1 m m ; 20 9 0 0               |                     | 3 | a palette of any size, and the averages after it
+300 1 m m ; 40 2 m m ; 20 9 0 0    | h in 1 1            | 3 | a meta channel's residual is meta
+300 1 m m ; 40 2 m m               | h in 0 1 ; v in 2 1 | 4 | only meta channels
+65535 1 m m ; 1 65535 m m          | h in 0 2            | 4 | of the largest sides
+20 9 0 0                           |                     | 2 | no meta channel
+20 9 0 0 ; 1 1 0 0                 |                     | 4 | coarse channels after the first large one are not counted
+300 1 m m ; 20 9 0 0 ; 1 1 0 0     |                     | 5 | with a palette neither
+300 1 m m ; 9 1 0 0                | h in 0 1            | 2 | it ends at the first other channel with a side above 8
+300 1 m m ; 1 9 0 0                | h in 0 1            | 2 | in either direction
+9 9 m m ; 8 8 0 0                  |                     | 2 | the whole list
+"""
+
+
+def coarse_rows():
+    for row in COARSE_ROWS.strip('\n').split('\n'):
+        channels, steps, count, why = row.split('|')
+        flat, plan = held(channels_of(channels)), plan_of(steps_of(steps))
+        answer, after = judge_plan(flat, plan)
+        assert (answer, coarse_count(meant(after))) == (0, int(count)), why
+        own_plan(flat, plan)
+        put_coarse(flat)
+
+
 def sweeps():
     # every shift about the limit and about 255, each direction and place
     for shift in (28, 29, 30, 31, 32, 254, 255):
@@ -380,15 +410,22 @@ def sweeps():
         put_coarse(held([(8, 8, 0, 0)] * min(count, MAX_CHANNELS), count=count))
     own_default(held([meta] * 255 + [(9, 9, 0, 0)]))
 
+    # meta channels about and above the stopping side, before, between and after others: any list has a coarse count
+    large, small = (300, 1, META, META), (8, 8, 0, 0)
+    for front in ([], [meta], [large], [large, (9, 9, META, META)], [small, large], [(8, 9, 0, 0), large], [(8, 9, 255, 0)]):
+        for rest in ([], [small], [(9, 8, 3, 3)], [(8, 9, 3, 3), small], [large, (9, 0, 0, 0)]):
+            put_coarse(held(front + rest))
+    put_coarse(held([large] * 256))
+    put_coarse(held([large] * 255 + [(9, 9, 0, 0)]))
+
 
 if __name__ == '__main__':
-    lists, defaults = sys.argv[1:]
-    for text in open(lists):
-        rust_list(text)
-    for text in open(defaults):
-        rust_default(text)
+    for path, rust_case in zip(sys.argv[1:], (rust_list, rust_default, rust_small), strict=True):
+        for text in open(path):
+            rust_case(text)
     step_rows()
     plan_rows()
+    coarse_rows()
     sweeps()
     stream = b''.join(cases)
     assert len(stream) <= PROGRAM_READS

@@ -5,8 +5,8 @@ squeeze-list, each with what it prints.
 usage: tests/records.py > crates/record_test/stdin
 
 The rules are those of rules.py, written from document 01 alone: a record read field by field, questions 1 to 11 in their
-order, the default plan and a step on a list; the coarse count is here. The record that the document prints is held
-against its text first.
+order, the default plan, a step on a list and the coarse count. The record that the document prints is held against its
+text first.
 
 The stream has for each kind of KINDS the number of its cases and the cases. A case is the number of a record's or an
 input's bytes, these bytes, the number of its text's bytes and the text. A number has four bytes, least byte first. The number of cases
@@ -15,7 +15,7 @@ of each kind goes to standard error.
 import struct
 import sys
 
-from rules import STOP, Refused, channel, field, is_meta, layouts, meaning, meta
+from rules import Refused, channel, coarse_count, field, is_meta, layouts, meaning, meta
 
 KINDS = {kind: [] for kind in ['printed', 'cuts', 'refusals', 'order', 'limits', 'sizes', 'metas', 'plans', 'bytes', 'inputs']}
 
@@ -30,8 +30,7 @@ def text(channels, steps):
     channels = layouts(channels, steps)[-1]
     lines.append(f'channels {len(channels)}')
     lines += [f'{c[0]} {c[1]} m m' if is_meta(c) else '%d %d %d %d' % c for c in channels]
-    coarse = next((k for k, c in enumerate(channels) if max(c[:2]) > STOP), len(channels))
-    return '\n'.join(lines + [f'coarse {coarse}', ''])
+    return '\n'.join(lines + [f'coarse {coarse_count(channels)}', ''])
 
 
 def listing(record):
@@ -170,6 +169,33 @@ def metas():
                         case('metas', record + field(flags, first, number))
 
 
+# Palettes (document 02, A.2): what is printed, by hand.
+
+PALETTES = [
+    (meta(300, 1) + channel(20, 9),
+     'steps 3|h in 1 1|v in 1 1|h in 1 1|channels 5|300 1 m m|5 5 2 1|5 5 2 1|10 4 1 1|10 9 1 0|coarse 3|'),
+    (meta(300, 1) + meta(40, 2) + channel(20, 9) + field(3, 1, 1),
+     'steps 1|h in 1 1|channels 4|300 1 m m|20 2 m m|20 2 m m|20 9 0 0|coarse 3|'),
+    (meta(300, 1) + meta(40, 2) + field(3, 0, 1) + field(2, 2, 1),
+     'steps 2|h in 0 1|v in 2 1|channels 4|150 1 m m|150 1 m m|40 1 m m|40 1 m m|coarse 4|'),
+    (meta(300, 1) + channel(9, 8) + channel(1, 1) + field(2, 2, 1),
+     'steps 1|v in 2 1|channels 4|300 1 m m|9 8 0 0|1 1 0 1|1 0 0 1|coarse 1|'),
+    (channel(20, 9) + channel(1, 1) + field(3, 1, 1),
+     'steps 1|h in 1 1|channels 3|20 9 0 0|1 1 1 0|0 1 1 0|coarse 0|'),
+]
+
+
+def palettes():
+    for record, expected in PALETTES:
+        assert listing(record) == expected.replace('|', '\n'), expected
+        case('metas', record, 0)
+    for width in (7, 8, 9, 300, 65535):
+        for height in (0, 1, 8, 9):
+            case('metas', meta(width, height) + channel(20, 9))
+            case('metas', meta(width, height) * 2 + channel(9, 8) + channel(1, 1) + field(2, 3, 1))
+            case('metas', meta(width, height) + meta(3, 1) + field(3, 1, 1))
+
+
 # Default plans of three and more channels, alike or not, and longer plans on them.
 
 def plans():
@@ -233,7 +259,7 @@ def inputs():
 
 
 if __name__ == '__main__':
-    for make in (printed, cuts, refusals, order, limits, sizes, metas, plans, byte_values, inputs):
+    for make in (printed, cuts, refusals, order, limits, sizes, metas, palettes, plans, byte_values, inputs):
         make()
     out = sys.stdout.buffer
     for kind, cases in KINDS.items():

@@ -1,7 +1,7 @@
-"""Document 01's rules in plain form, for the generators beside this file: records, lists, plans and the pair.
+"""The papers' rules in plain form, for the generators beside this file: records, lists, plans and the pair.
 
 A channel is (width, height, horizontal shift, vertical shift), a step (horizontal, in place, first, number). Written
-from document 01 alone.
+from document 01 alone, the coarse count from document 02, A.2.
 """
 import struct
 
@@ -49,6 +49,14 @@ def is_meta(c):
 
 def total(channels):
     return sum(c[0] * c[1] for c in channels)
+
+
+# "A leading meta channel is to be counted .. of any size; the count still ends at the first other channel with a side
+# above 8" (document 02, A.2).
+
+def coarse_count(channels):
+    ends = (k for k, c in enumerate(channels) if not is_meta(c) and max(c[:2]) > STOP)
+    return next(ends, len(channels))
 
 
 # "Default plan (reference `default_squeeze`)".

@@ -1,6 +1,7 @@
 -- The wrong programs (specs/Wrong.antt) differ from the contracts on a picture 17 by 1 under the default plan, which takes two steps; the wrong
--- counts there or on document 01's picture 20 by 9. What either side gives is computed. Assumes nothing.
+-- counts there, on document 01's picture 20 by 9, or on a list with a palette. What either side gives is computed. Assumes nothing.
 use mathlib.Core.Path.{_≡_, refl, ap, sym, _∙_}
+use mathlib.Core.Bool.{true, false}
 use mathlib.Core.List.{List, [], _∷_}
 use Prim.Native.Nat.{ℕ}
 use native.Mathlib.Omega.{arith}
@@ -12,22 +13,31 @@ use Rattle.pair.specs.Pair as Pair
 use Rattle.line.specs.Line as Line
 use Rattle.line.specs.Uncut as Uncut
 use Rattle.line.specs.Forward as Forward
-use Rattle.channel.specs.Channel as Channel
+use Rattle.channel.specs.declared.Channel.{Channel}
+use Rattle.channel.specs.Channel as C
+use Rattle.list.specs.declared.Step.{Step}
+use Rattle.list.specs.Tables.{all}
 use Rattle.list.specs.Lists as Lists
 use Rattle.list.specs.Questions as Questions
 use Rattle.plan.specs.Steps as Steps
 use Rattle.plan.specs.Default as Default
-use Rattle.plan.specs.Default.{stoppingSide, coarseCount}
+use Rattle.plan.specs.Default.{stoppingSide}
+use Rattle.plan.specs.Coarse as Count
+use Rattle.plan.specs.Coarse.{isSmall, isCoarse, coarseCount}
+use Rattle.plan.specs.StandardDefault.{others}
 use Rattle.plan.specs.Plans as Plans
 use Rattle.record.specs.Reading as Reading
 use Rattle.record.specs.Records as Records
 use Rattle.record.specs.Records.{readAnswer, reachedOf}
+use Rattle.record.specs.Bytes.{recordOf}
+use Rattle.record.proofs.RecordOf.{record-accepted, record-reached}
 use Rattle.buffer.specs.Buffer as Buffer
 use Rattle.runs.specs.Runs as Runs
 use Rattle.squeeze.specs.Entry as Entry
 use Rattle.squeeze.specs.Entry.{answer, pictureOf, pyramidOf}
-use Rattle.claims.specs.Table.{record20by9}
-use Rattle.claims.specs.Wrong.{Program, Refuted, copies, zeroes, leaves, firstOnly, firstWritten, lastOnly, Count, CountRefuted, everyChannel, beforeThePlan, Wrong}
+use Rattle.claims.specs.Table.{record20by9, channel}
+use Rattle.claims.specs.Coarse.{palette}
+use Rattle.claims.specs.Wrong.{Program, Refuted, copies, zeroes, leaves, firstOnly, firstWritten, lastOnly, Count, CountRefuted, everyChannel, beforeThePlan, among, Wrong}
 
 -- the record, the samples that are read, and slices of zeros
 bytes : List ℕ
@@ -46,6 +56,16 @@ sampleOf f i = getD (f bytes read none none) i (pos 0)
 -- the coarse count by its definition
 coarse : Count
 coarse xs = coarseCount stoppingSide (reachedOf xs)
+
+-- a list with a palette: 300 by 1, a channel 9 by 8 and one 1 by 1, which is squeezed in place
+seats : List Channel
+seats = palette 300 1 ∷ channel 9 8 ∷ channel 1 1 ∷ []
+
+seatStep : List Step
+seatStep = Default.step false true 2 1 ∷ []
+
+seatsLeft : List Channel
+seatsLeft = Plans.steppedAll (Plans.meant seatStep seats) seats
 
 record Computed : Type 0 where
   pub accepted : answer bytes read none none ≡ 0
@@ -67,20 +87,26 @@ record Computed : Type 0 where
   pub coarse-20 : coarse record20by9 ≡ 2
   pub every-20 : everyChannel record20by9 ≡ 4
   pub before-20 : beforeThePlan record20by9 ≡ 0
+  pub seats-fit : all C.sidesFit seats ≡ true
+  pub seats-judged : Plans.judgePlan (Lists.packed seats) (Steps.packed seatStep) ≡ 0
+  pub coarse-seats : coarseCount stoppingSide seatsLeft ≡ 1
+  pub small-seats : Default.leading (isSmall stoppingSide) seatsLeft ≡ 0
+  pub left-seats : coarseCount stoppingSide (others seatsLeft) ≡ 0
+  pub on-seats : among (isCoarse stoppingSide) seatsLeft ≡ 3
 
 computed : Computed
 unfolding
-    bytes read none sampleOf coarse Buffer.zeros
+    bytes seats seatStep seatsLeft read none sampleOf coarse Buffer.zeros
     Arith.residue Arith.wrap Arith.wrappedAbs Arith.lowestBit
     Tend.opposite Tend.slope Tend.clampBefore Tend.clampAfter Tend.negatedIf Tend.monotone Tend.tendency
     Pair.difference Pair.firstOf Pair.secondOf Pair.first Pair.second Pair.average Pair.residualOf Pair.residual
     Line.nextAverage Line.before Line.sample Uncut.lineOf Uncut.outputAt Uncut.uncut
     Forward.averageAt Forward.nextAt Forward.prevAt Forward.residualAt Forward.averagesOf Forward.residualsOf
-    Channel.isMeta Channel.shiftsAllowed Channel.samples
+    C.isMeta C.shiftsAllowed C.samples C.sidesFit
     Lists.channels Lists.packed Lists.raised Lists.average Lists.residual Lists.stepped
     Questions.countAllowed Questions.channelsAllowed Questions.totalAllowed Questions.rangeAllowed Questions.kindsAlike Questions.placeAllowed Questions.hasSides Questions.shiftsKept Questions.roomLeft Questions.judgeStep
     Steps.flagsOf Steps.flagsAllowed Steps.steps Steps.allFlags Steps.packed
-    Default.metaCount Default.chroma Default.rounds Default.allChannels Default.defaultSteps Default.isCoarse Default.coarseCount
+    Default.metaCount Default.chroma Default.rounds Default.allChannels Default.defaultSteps Count.isCoarse Count.coarseCount
     Plans.hasOther Plans.meant Plans.meantAllowed Plans.judgeForm Plans.judgeMeant Plans.judgePlan
     Reading.fieldInside Reading.isChannel Reading.isStep Reading.channelAllowed Reading.judgeChannelField Reading.judgeStepField Reading.judgeField Reading.formOf
     Records.readAnswer
@@ -107,6 +133,12 @@ computed =
       coarse-20 = refl;
       every-20 = refl;
       before-20 = refl;
+      seats-fit = refl;
+      seats-judged = refl;
+      coarse-seats = refl;
+      small-seats = refl;
+      left-seats = refl;
+      on-seats = refl;
     }
 
 size : ℤ → ℕ
@@ -123,6 +155,20 @@ differs contract f i m n ef ec h all =
 miscounts : (f : Count) (xs : List ℕ) (m n : ℕ) → readAnswer xs ≡ 0 → f xs ≡ m → coarse xs ≡ n → (m ≡ n → ⊥) → CountRefuted f
 unfolding coarse
 miscounts f xs m n z ef ec h all = h (sym ef ∙ all xs z ∙ ec)
+
+-- counts of the list with a palette, whose record is read as it was written
+seats-reached : reachedOf (recordOf seats seatStep) ≡ seatsLeft
+unfolding seatsLeft
+seats-reached = record-reached seats seatStep (computed .seats-fit) (computed .seats-judged)
+
+miscounts-seats : (count : List Channel → ℕ) (n : ℕ) → count seatsLeft ≡ n → (n ≡ 1 → ⊥) → CountRefuted (λ xs. count (reachedOf xs))
+unfolding coarse
+miscounts-seats count n e h =
+    miscounts (λ xs. count (reachedOf xs)) (recordOf seats seatStep) n 1
+    (record-accepted seats seatStep (computed .seats-fit) (computed .seats-judged))
+    (ap count seats-reached ∙ e)
+    (ap (coarseCount stoppingSide) seats-reached ∙ computed .coarse-seats)
+    h
 
 -- one number can't be 3 and 2
 made-up : (n : ℕ) → CountRefuted (λ xs. n)
@@ -148,4 +194,7 @@ wrong =
       count-made-up = made-up;
       count-of-all = miscounts everyChannel record20by9 4 2 (computed .read-20) (computed .every-20) (computed .coarse-20) (λ e. absurd (omega arith));
       count-before-plan = miscounts beforeThePlan record20by9 0 2 (computed .read-20) (computed .before-20) (computed .coarse-20) (λ e. absurd (omega arith));
+      count-small-only = miscounts-seats (Default.leading (isSmall stoppingSide)) 0 (computed .small-seats) (λ e. absurd (omega arith));
+      count-metas-left-out = miscounts-seats (λ cs. coarseCount stoppingSide (others cs)) 0 (computed .left-seats) (λ e. absurd (omega arith));
+      count-counted-on = miscounts-seats (among (isCoarse stoppingSide)) 3 (computed .on-seats) (λ e. absurd (omega arith));
     }

@@ -1,15 +1,18 @@
--- Programs that must not get through (document 01, "Contract by contract", c): what each would leave in the slice that it fills, or print as the
--- coarse count. None agrees with the contracts of `squeeze_rebuild`, `squeeze_write` and `squeeze_listing`. Statements only; proofs/Wrong.antt
--- proves them by two records.
+-- Programs that must not get through (document 01, "Contract by contract", c; document 02, A.2): what each would leave in the slice that it fills,
+-- or print as the coarse count. None agrees with the contracts of `squeeze_rebuild`, `squeeze_write` and `squeeze_listing`. Statements only; proofs/Wrong.antt
+-- proves them by three records.
 use mathlib.Core.Path.{_≡_}
+use mathlib.Core.Bool.{Bool, cond}
 use mathlib.Core.List.{List, [], _∷_}
-use Prim.Native.Nat.{ℕ}
+use Prim.Native.Nat.{ℕ, _+_}
 use lib.IntN.{ℤ}
 use lib.ListN.{length}
 use Rattle.channel.specs.declared.Channel.{Channel}
 use Rattle.list.specs.declared.Step.{Step}
 use Rattle.list.specs.Lists.{stepped}
-use Rattle.plan.specs.Default.{stoppingSide, coarseCount}
+use Rattle.plan.specs.Default.{stoppingSide, leading}
+use Rattle.plan.specs.Coarse.{isSmall, isCoarse, coarseCount}
+use Rattle.plan.specs.StandardDefault.{others}
 use Rattle.record.specs.Records.{readAnswer, channelsOf, stepsOf, reachedOf}
 use Rattle.buffer.specs.Buffer.{zeros}
 use Rattle.runs.specs.Runs.{stepBack, stepForward}
@@ -77,6 +80,20 @@ everyChannel bytes = length (reachedOf bytes)
 abbrev pub beforeThePlan : Count
 beforeThePlan bytes = coarseCount stoppingSide (channelsOf bytes)
 
+-- meta channels only up to the stopping side; meta channels left out; coarse channels counted on past the first other one
+abbrev pub smallOnly : Count
+smallOnly bytes = leading (isSmall stoppingSide) (reachedOf bytes)
+
+abbrev pub metasLeftOut : Count
+metasLeftOut bytes = coarseCount stoppingSide (others (reachedOf bytes))
+
+abbrev pub among : (Channel → Bool) → List Channel → ℕ
+among p [] = 0
+among p (c ∷ cs) = cond (p c) 1 0 + among p cs
+
+abbrev pub countedOn : Count
+countedOn bytes = among (isCoarse stoppingSide) (reachedOf bytes)
+
 pub record Wrong : Type 0 where
   pub picture-copied : Refuted pictureOf copies
   pub picture-zeroed : Refuted pictureOf zeroes
@@ -91,3 +108,6 @@ pub record Wrong : Type 0 where
   pub count-made-up : (n : ℕ) → CountRefuted (always n)
   pub count-of-all : CountRefuted everyChannel
   pub count-before-plan : CountRefuted beforeThePlan
+  pub count-small-only : CountRefuted smallOnly
+  pub count-metas-left-out : CountRefuted metasLeftOut
+  pub count-counted-on : CountRefuted countedOn

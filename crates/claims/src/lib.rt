@@ -1,4 +1,5 @@
-// The claims on one page: document 01's table (specs/Table.antt), the demands
-// over the definitions that the C functions' contracts cite
-// (specs/Demands.antt), and the programs that must not get through
-// (specs/Wrong.antt); their theorems are in proofs/. There is no code here.
+// The claims together: document 01's table (specs/Table.antt), the demands over
+// the definitions that the C functions' contracts cite (specs/Demands.antt), the
+// coarse count of document 02, A.2 (specs/Coarse.antt), and the programs that
+// must not get through (specs/Wrong.antt); their theorems are in proofs/. There
+// is no code here.

@@ -253,6 +253,7 @@ fn report(bytes: &[u8]) {
     say(bytes, b"Rust, steps ", RUST, STEP);
     say(bytes, b"Rust, plans ", RUST, PLAN);
     say(bytes, b"Rust, default plans ", RUST, DEFAULT);
+    say(bytes, b"Rust, coarse channels ", RUST, COARSE);
     say(bytes, b"own, steps ", OWN, STEP);
     say(bytes, b"own, plans ", OWN, PLAN);
     say(bytes, b"own, default plans ", OWN, DEFAULT);

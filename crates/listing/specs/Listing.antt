@@ -9,7 +9,8 @@ use Rattle.numbers.specs.Numbers.{refusedLength}
 use Rattle.channel.specs.declared.Channel.{Channel}
 use Rattle.list.specs.declared.Step.{Step}
 use Rattle.list.specs.Questions.{ask}
-use Rattle.plan.specs.Default.{stoppingSide, coarseCount}
+use Rattle.plan.specs.Default.{stoppingSide}
+use Rattle.plan.specs.Coarse.{coarseCount}
 use Rattle.plan.specs.Plans.{meant, steppedAll}
 use Rattle.record.specs.Reading.{formOf}
 use Rattle.record.specs.Records.{readAnswer, channelsOf}

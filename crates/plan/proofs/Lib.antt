@@ -4,6 +4,7 @@ pub mod Appended
 pub mod Packed
 pub mod Counts
 pub mod Passed
+pub mod Coarse
 pub mod Parts
 pub mod Flags
 pub mod Form

@@ -1,4 +1,4 @@
--- The default plan and the coarse count (document 01, "The list and the plan"), as functions of the side at which they stop, which is 8.
+-- The default plan (document 01, "The list and the plan"), as a function of the side at which it stops, which is 8.
 -- Definitions only.
 use mathlib.Core.Bool.{Bool, true, false, cond, _&&_}
 use mathlib.Core.List.{List, [], _∷_, _++_}
@@ -11,7 +11,7 @@ use Rattle.list.specs.declared.Step.{Step}
 use Rattle.list.specs.Lists.{halved}
 use Rattle.list.specs.Questions.{channelOf}
 
--- the side above which the default plan goes on, and up to which a channel is coarse
+-- the side above which the default plan goes on, and up to which a channel that is not meta is coarse
 abbrev pub stoppingSide : ℕ
 stoppingSide = 8
 
@@ -70,10 +70,3 @@ unfoldable pub defaultSteps : ℕ → List Channel → List Step
 defaultSteps stop cs =
     chroma (metaCount cs) (otherCount cs) (firstOther cs .width) (firstOther cs .height) (secondOther cs)
     ++ allChannels stop (metaCount cs) (otherCount cs) (firstOther cs .width) (firstOther cs .height)
-
--- "The coarse count is the number of leading channels of the rewritten list, up to the first with a side above 8."
-unfoldable pub isCoarse : ℕ → Channel → Bool
-isCoarse stop c = leb (c .width) stop && leb (c .height) stop
-
-unfoldable pub coarseCount : ℕ → List Channel → ℕ
-coarseCount stop cs = leading (isCoarse stop) cs

@@ -11,6 +11,7 @@ ghost use Rattle.list.specs.Questions.{judgeList};
 ghost use Rattle.plan.specs.Steps as Spec;
 ghost use Rattle.plan.specs.Adding.{pushed, appended};
 ghost use Rattle.plan.specs.Default as Default;
+ghost use Rattle.plan.specs.Coarse.{isCoarse, coarseCount};
 ghost use Rattle.plan.specs.Counted.{isCounted};
 ghost use Rattle.plan.specs.Plans as Plans;
 use channel::Channel;
@@ -51,7 +52,7 @@ pub fn flags_of(step: Step) -> u8
 
 impl Steps {
     // The side above which the default plan goes on, and up to which a channel
-    // is coarse (the Rust's `MAX_FIRST_PREVIEW_SIZE`).
+    // that is not meta is coarse (the Rust's `MAX_FIRST_PREVIEW_SIZE`).
     pub const STOPPING_SIDE: u16 = 8;
 
     // The flags of a step that is horizontal and in place.
@@ -196,10 +197,12 @@ fn chroma(plan: Steps, m: u16, n: u16, w: u16, h: u16, second: Channel) -> Steps
         .push_if(alike & (1 < h), vertical)
 }
 
-fn is_coarse(channel: Channel) -> bool
-    ensures { λ r. ⌜ r ≡ Default.isCoarse Default.stoppingSide channel ⌝ }
+// Whether a channel is meta or has no side above `stop` (the Rust's
+// `is_meta_or_small`).
+fn is_coarse(channel: Channel, stop: u16) -> bool
+    ensures { λ r. ⌜ r ≡ isCoarse stop channel ⌝ }
 {
-    (channel.width <= Steps::STOPPING_SIDE) & (channel.height <= Steps::STOPPING_SIDE)
+    channel.is_meta() | ((channel.width <= stop) & (channel.height <= stop))
 }
 
 fn is_counted(channel: Channel, which: Counted) -> bool
@@ -207,7 +210,7 @@ fn is_counted(channel: Channel, which: Counted) -> bool
 {
     match which {
         Counted::Meta => channel.is_meta(),
-        Counted::Coarse => is_coarse(channel),
+        Counted::Coarse => is_coarse(channel, Steps::STOPPING_SIDE),
     }
 }
 
@@ -234,7 +237,7 @@ fn meta_count(list: ChannelList) -> usize
 
 // The coarse count of a rewritten list.
 pub fn coarse_count(list: ChannelList) -> usize
-    ensures { λ r. ⌜ r ≡ Default.coarseCount Default.stoppingSide (channels list) ⌝ }
+    ensures { λ r. ⌜ r ≡ coarseCount Default.stoppingSide (channels list) ⌝ }
 {
     leading(list, Counted::Coarse)
 }

@@ -1,6 +1,6 @@
 -- `coarse_count` meets its contract: it counts the leading coarse channels. Assumes nothing.
 use borrow.Author.Needs.{needs}
-use Rattle.plan.specs.Default.{coarseCount}
+use Rattle.plan.specs.Coarse.{coarseCount}
 use Rattle.plan.specs.Counted.{isCounted}
 use Rattle.plan.proofs.coarse_count.Statement.{statement}
 use Rattle.plan.proofs.coarse_count.Tie as tie
