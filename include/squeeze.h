@@ -59,7 +59,8 @@ uint32_t squeeze_tile(uint32_t horizontal,
                       int32_t *out, size_t out_len);
 
 /* The listing of a record as text: the plan's steps, the channels that it
-   leaves and how many of them are coarse. The text goes over the front of
+   leaves and how many of them are coarse: those at the front that are meta, of
+   any size, or have no side above 8. The text goes over the front of
    `text` (8,192 bytes hold every listing), its length in bytes into length[0];
    what is past them stays. A text too short or no length: refused with 12. */
 uint32_t squeeze_listing(const uint8_t *record, size_t record_len,

@@ -1,5 +1,7 @@
 //! What a record's plan does to its channel list.
 
+use std::ops::Range;
+
 /// A channel of a list.
 #[derive(Clone, Copy, Debug, PartialEq, Eq, Hash)]
 pub struct Channel {
@@ -30,6 +32,11 @@ impl Channel {
         }
     }
 
+    /// Whether the channel is meta: a palette, not a part of the picture.
+    pub fn is_meta(&self) -> bool {
+        self.shifts.is_none()
+    }
+
     /// How many samples the channel has.
     pub fn samples(&self) -> usize {
         usize::from(self.width) * usize::from(self.height)
@@ -57,23 +64,42 @@ pub struct Layout {
     pub steps: Vec<Step>,
     /// The channels of the pyramid.
     pub channels: Vec<Channel>,
-    /// How many leading channels have no side above 8.
+    /// How many leading channels are coarse: meta, of any size, or without a side
+    /// above 8.
     pub coarse: usize,
 }
 
 impl Layout {
     /// How many samples picture and pyramid have.
     pub fn samples(&self) -> usize {
-        self.channels.iter().map(Channel::samples).sum()
+        samples(&self.channels)
     }
 
     /// How many samples at the front of the pyramid are coarse.
     pub fn coarse_samples(&self) -> usize {
-        self.channels[..self.coarse]
-            .iter()
-            .map(Channel::samples)
-            .sum()
+        samples(&self.channels[..self.coarse])
     }
+
+    /// How many meta channels there are; they come first, and are all coarse.
+    pub fn metas(&self) -> usize {
+        self.channels.iter().take_while(|c| c.is_meta()).count()
+    }
+
+    /// The channels that a preview shows: coarse ones of the picture, without the
+    /// meta channels before them.
+    pub fn preview_channels(&self) -> &[Channel] {
+        &self.channels[self.metas()..self.coarse]
+    }
+
+    /// Where the samples of [`preview_channels`](Layout::preview_channels) stand in
+    /// the pyramid.
+    pub fn preview_samples(&self) -> Range<usize> {
+        samples(&self.channels[..self.metas()])..self.coarse_samples()
+    }
+}
+
+fn samples(channels: &[Channel]) -> usize {
+    channels.iter().map(Channel::samples).sum()
 }
 
 /// A listing taken apart. Nothing if the text isn't a listing.
@@ -84,14 +110,13 @@ pub(crate) fn parse(text: &str) -> Option<Layout> {
     let number = count(lines.next()?, "channels ")?;
     let channels = read_lines(&mut lines, number, channel)?;
     let coarse = count(lines.next()?, "coarse ")?;
-    if lines.next().is_some() || coarse > channels.len() {
-        return None;
-    }
-    Some(Layout {
+    let layout = Layout {
         steps,
         channels,
         coarse,
-    })
+    };
+    let counted = layout.metas()..=layout.channels.len();
+    (lines.next().is_none() && counted.contains(&coarse)).then_some(layout)
 }
 
 fn count(line: &str, word: &str) -> Option<usize> {
@@ -159,6 +184,10 @@ mod tests {
                 "coarse past the count",
             ),
             (
+                "steps 0\nchannels 1\n9 1 m m\ncoarse 0\n",
+                "a meta channel that isn't coarse",
+            ),
+            (
                 "steps 0\nchannels 1\n5 5 0 0\ncoarse 1\nend\n",
                 "a line too many",
             ),
@@ -179,5 +208,7 @@ mod tests {
         assert_eq!(layout.channels[0].shifts, None);
         assert_eq!(layout.channels[1].shifts, Some((1, 30)));
         assert_eq!((layout.samples(), layout.coarse_samples()), (86, 86));
+        assert_eq!(layout.preview_channels(), &layout.channels[1..]);
+        assert_eq!(layout.preview_samples(), 30..86);
     }
 }

@@ -109,7 +109,7 @@ pub fn write_pyramid(record: &[u8], picture: &[i32]) -> Result<Vec<i32>, Refusal
 }
 
 /// The listing of a record: the plan's steps, the channels that it leaves and
-/// how many of them are coarse.
+/// how many of them are coarse, which [`Layout::coarse`] explains.
 pub fn listing(record: &[u8]) -> Result<String, Refusal> {
     let mut text = vec![0u8; LISTING_ROOM];
     let mut length = [0];

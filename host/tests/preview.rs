@@ -8,6 +8,7 @@ mod command;
 mod pnm;
 
 use pnm::Picture;
+use squeeze::{write_pyramid, Channel, Record};
 use std::fs;
 use std::path::{Path, PathBuf};
 
@@ -159,6 +160,22 @@ fn small_pictures_arrive_whole() {
     assert_eq!(small.arrived, 8 * 6 + 2 * 4 * 3);
     let first = |p: &Picture| p.samples.iter().step_by(3).copied().collect::<Vec<u16>>();
     assert_eq!(first(&small.picture), first(&colour));
+}
+
+#[test]
+fn palettes_are_not_shown() {
+    for channels in [1, 3] {
+        let drawn = picture(20, 9, channels, 255);
+        let alone = coarse::preview(&drawn).unwrap();
+        let palettes = [Channel::meta(300, 1), Channel::meta(3, 2)];
+        let list = [&palettes[..], &vec![Channel::new(20, 9); channels]].concat();
+        let record = Record::from_parts(&list, &[]).unwrap();
+        let colours = vec![77; 306];
+        let pyramid = write_pyramid(record.bytes(), &[colours, drawn.planes()].concat()).unwrap();
+        let seats = coarse::shown(record.bytes(), &pyramid, channels, 255).unwrap();
+        assert_eq!(seats.picture, alone.picture);
+        assert_eq!(seats.arrived, 306 + alone.arrived);
+    }
 }
 
 #[test]

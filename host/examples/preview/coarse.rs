@@ -7,7 +7,7 @@ use squeeze::{layout, write_pyramid, Channel, Record, Refusal};
 pub struct Preview {
     /// As wide and high as the first channel's average.
     pub picture: Picture,
-    /// Samples at the front of the pyramid.
+    /// Samples at the front of the pyramid, those of palettes among them.
     pub arrived: usize,
 }
 
@@ -17,9 +17,22 @@ pub fn preview(picture: &Picture) -> Result<Preview, Refusal> {
     let channel = Channel::new(picture.width as u16, picture.height as u16);
     let record = Record::from_parts(&vec![channel; picture.channels], &[])?;
     let pyramid = write_pyramid(record.bytes(), &picture.planes())?;
-    let averages = &layout(record.bytes())?.channels[..picture.channels];
-    let arrived = averages.iter().map(Channel::samples).sum();
-    let picture = assemble(averages, &pyramid[..arrived], picture.maxval);
+    shown(record.bytes(), &pyramid, picture.channels, picture.maxval)
+}
+
+/// The preview of a pyramid whose picture has so many channels. Palettes stand
+/// before the averages; they arrive first and aren't shown.
+pub fn shown(
+    record: &[u8],
+    pyramid: &[i32],
+    channels: usize,
+    maxval: u16,
+) -> Result<Preview, Refusal> {
+    let layout = layout(record)?;
+    let averages = &layout.preview_channels()[..channels];
+    let start = layout.preview_samples().start;
+    let arrived = start + averages.iter().map(Channel::samples).sum::<usize>();
+    let picture = assemble(averages, &pyramid[start..arrived], maxval);
     Ok(Preview { picture, arrived })
 }
 

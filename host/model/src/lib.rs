@@ -1,6 +1,6 @@
-//! Document 01's rules in plain Rust, written from that paper alone, to compare
-//! the proved core with and to time it against. One file per subject, in the
-//! paper's order and words. Refusals are the paper's numbers.
+//! Document 01's rules and document 02's in plain Rust, written from these papers
+//! alone, to compare the proved core with and to time it against. One file per
+//! subject, in the papers' order and words. Refusals are the papers' numbers.
 
 #![forbid(unsafe_code)]
 #![warn(missing_docs)]
@@ -27,7 +27,8 @@ pub const MAX_STEPS: usize = 64;
 pub const MAX_SHIFT: u8 = 30;
 /// The longest side.
 pub const MAX_SIDE: usize = 65_535;
-/// The side up to which a channel is coarse, and at which the default plan stops.
+/// The side up to which a channel that is not meta is coarse, and at which the
+/// default plan stops.
 pub const COARSE_SIDE: u16 = 8;
 
 /// The refusals' numbers.

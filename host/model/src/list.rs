@@ -37,6 +37,11 @@ impl Channel {
         self.shifts.is_none()
     }
 
+    /// Whether it is meta, of any size, or has no side above `group_dim`.
+    pub fn is_meta_or_small(&self, group_dim: u16) -> bool {
+        self.meta() || (self.width <= group_dim && self.height <= group_dim)
+    }
+
     /// The average and the residual that a step makes of it.
     pub fn halves(&self, horizontal: bool) -> (Channel, Channel) {
         let mut average = *self;
@@ -125,9 +130,10 @@ pub fn take_step(list: &[Channel], step: &Step) -> Result<Vec<Channel>, u32> {
     Ok(next)
 }
 
-/// The number of leading channels up to the first with a side above 8.
+/// The number of leading channels up to the first that is not meta and has a
+/// side above 8 (document 02, A.2).
 pub fn coarse_count(list: &[Channel]) -> usize {
     list.iter()
-        .take_while(|c| c.width <= COARSE_SIDE && c.height <= COARSE_SIDE)
+        .take_while(|c| c.is_meta_or_small(COARSE_SIDE))
         .count()
 }
