@@ -11,12 +11,12 @@ use Rattle.list.specs.declared.Step.{Step}
 use Rattle.list.specs.Lists as Lists
 use Rattle.list.specs.Tables.{all}
 use Rattle.list.specs.Questions as Questions
-use Rattle.list.specs.Questions.{metaFirst}
+use Rattle.list.specs.Questions.{noMeta, metaFirst}
 use Rattle.plan.specs.Steps as Steps
 use Rattle.plan.specs.Default as Default
 use Rattle.plan.specs.Default.{stoppingSide, step}
 use Rattle.plan.specs.Coarse as Count
-use Rattle.plan.specs.Coarse.{coarseCount, noMeta}
+use Rattle.plan.specs.Coarse.{coarseCount}
 use Rattle.plan.specs.Plans as Plans
 use Rattle.plan.specs.Plans.{judgePlan, steppedAll, meant}
 use Rattle.plan.proofs.Coarse.{count-laws}

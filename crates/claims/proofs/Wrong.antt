@@ -3,7 +3,7 @@
 use mathlib.Core.Path.{_≡_, refl, ap, sym, _∙_}
 use mathlib.Core.Bool.{true, false}
 use mathlib.Core.List.{List, [], _∷_}
-use Prim.Native.Nat.{ℕ}
+use Prim.Native.Nat.{ℕ, _-_}
 use native.Mathlib.Omega.{arith}
 use lib.IntN.{ℤ, pos, negsuc}
 use lib.ListN.{getD, replicate}
@@ -24,7 +24,6 @@ use Rattle.plan.specs.Default as Default
 use Rattle.plan.specs.Default.{stoppingSide}
 use Rattle.plan.specs.Coarse as Count
 use Rattle.plan.specs.Coarse.{isSmall, isCoarse, coarseCount}
-use Rattle.plan.specs.StandardDefault.{others}
 use Rattle.plan.specs.Plans as Plans
 use Rattle.record.specs.Reading as Reading
 use Rattle.record.specs.Records as Records
@@ -36,7 +35,7 @@ use Rattle.runs.specs.Runs as Runs
 use Rattle.squeeze.specs.Entry as Entry
 use Rattle.squeeze.specs.Entry.{answer, pictureOf, pyramidOf}
 use Rattle.claims.specs.Table.{record20by9, channel}
-use Rattle.claims.specs.Coarse.{palette}
+use Rattle.claims.specs.Coarse.{coarseOf, palette}
 use Rattle.claims.specs.Wrong.{Program, Refuted, copies, zeroes, leaves, firstOnly, firstWritten, lastOnly, Count, CountRefuted, everyChannel, beforeThePlan, among, Wrong}
 
 -- the record, the samples that are read, and slices of zeros
@@ -52,10 +51,6 @@ none = replicate 17 (pos 0)
 -- sample i that a program leaves in the slice that it fills
 sampleOf : Program → ℕ → ℤ
 sampleOf f i = getD (f bytes read none none) i (pos 0)
-
--- the coarse count by its definition
-coarse : Count
-coarse xs = coarseCount stoppingSide (reachedOf xs)
 
 -- a list with a palette: 300 by 1, a channel 9 by 8 and one 1 by 1, which is squeezed in place
 seats : List Channel
@@ -83,20 +78,20 @@ record Computed : Type 0 where
   pub written-1 : sampleOf firstWritten 1 ≡ pos 10
   pub read-17 : readAnswer bytes ≡ 0
   pub read-20 : readAnswer record20by9 ≡ 0
-  pub coarse-17 : coarse bytes ≡ 3
-  pub coarse-20 : coarse record20by9 ≡ 2
+  pub coarse-17 : coarseOf bytes ≡ 3
+  pub coarse-20 : coarseOf record20by9 ≡ 2
   pub every-20 : everyChannel record20by9 ≡ 4
   pub before-20 : beforeThePlan record20by9 ≡ 0
   pub seats-fit : all C.sidesFit seats ≡ true
   pub seats-judged : Plans.judgePlan (Lists.packed seats) (Steps.packed seatStep) ≡ 0
   pub coarse-seats : coarseCount stoppingSide seatsLeft ≡ 1
   pub small-seats : Default.leading (isSmall stoppingSide) seatsLeft ≡ 0
-  pub left-seats : coarseCount stoppingSide (others seatsLeft) ≡ 0
+  pub left-seats : coarseCount stoppingSide seatsLeft - Default.metaCount seatsLeft ≡ 0
   pub on-seats : among (isCoarse stoppingSide) seatsLeft ≡ 3
 
 computed : Computed
 unfolding
-    bytes seats seatStep seatsLeft read none sampleOf coarse Buffer.zeros
+    bytes seats seatStep seatsLeft read none sampleOf Buffer.zeros
     Arith.residue Arith.wrap Arith.wrappedAbs Arith.lowestBit
     Tend.opposite Tend.slope Tend.clampBefore Tend.clampAfter Tend.negatedIf Tend.monotone Tend.tendency
     Pair.difference Pair.firstOf Pair.secondOf Pair.first Pair.second Pair.average Pair.residualOf Pair.residual
@@ -152,8 +147,7 @@ differs contract f i m n ef ec h all =
     h (ap size (sym ef ∙ ap (λ (xs : List ℤ). getD xs i (pos 0)) (all bytes read none none (computed .accepted)) ∙ ec))
 
 -- a count that gives another number for a record than the definition
-miscounts : (f : Count) (xs : List ℕ) (m n : ℕ) → readAnswer xs ≡ 0 → f xs ≡ m → coarse xs ≡ n → (m ≡ n → ⊥) → CountRefuted f
-unfolding coarse
+miscounts : (f : Count) (xs : List ℕ) (m n : ℕ) → readAnswer xs ≡ 0 → f xs ≡ m → coarseOf xs ≡ n → (m ≡ n → ⊥) → CountRefuted f
 miscounts f xs m n z ef ec h all = h (sym ef ∙ all xs z ∙ ec)
 
 -- counts of the list with a palette, whose record is read as it was written
@@ -162,7 +156,6 @@ unfolding seatsLeft
 seats-reached = record-reached seats seatStep (computed .seats-fit) (computed .seats-judged)
 
 miscounts-seats : (count : List Channel → ℕ) (n : ℕ) → count seatsLeft ≡ n → (n ≡ 1 → ⊥) → CountRefuted (λ xs. count (reachedOf xs))
-unfolding coarse
 miscounts-seats count n e h =
     miscounts (λ xs. count (reachedOf xs)) (recordOf seats seatStep) n 1
     (record-accepted seats seatStep (computed .seats-fit) (computed .seats-judged))
@@ -172,7 +165,6 @@ miscounts-seats count n e h =
 
 -- one number can't be 3 and 2
 made-up : (n : ℕ) → CountRefuted (λ xs. n)
-unfolding coarse
 made-up n all =
     let a = all bytes (computed .read-17) ∙ computed .coarse-17 in
     let b = all record20by9 (computed .read-20) ∙ computed .coarse-20 in
@@ -195,6 +187,6 @@ wrong =
       count-of-all = miscounts everyChannel record20by9 4 2 (computed .read-20) (computed .every-20) (computed .coarse-20) (λ e. absurd (omega arith));
       count-before-plan = miscounts beforeThePlan record20by9 0 2 (computed .read-20) (computed .before-20) (computed .coarse-20) (λ e. absurd (omega arith));
       count-small-only = miscounts-seats (Default.leading (isSmall stoppingSide)) 0 (computed .small-seats) (λ e. absurd (omega arith));
-      count-metas-left-out = miscounts-seats (λ cs. coarseCount stoppingSide (others cs)) 0 (computed .left-seats) (λ e. absurd (omega arith));
+      count-metas-left-out = miscounts-seats (λ cs. coarseCount stoppingSide cs - Default.metaCount cs) 0 (computed .left-seats) (λ e. absurd (omega arith));
       count-counted-on = miscounts-seats (among (isCoarse stoppingSide)) 3 (computed .on-seats) (λ e. absurd (omega arith));
     }

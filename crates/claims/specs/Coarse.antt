@@ -8,8 +8,9 @@ use lib.ListN.{length, drop}
 use Rattle.channel.specs.declared.Channel.{Channel}
 use Rattle.channel.specs.Channel.{metaShift}
 use Rattle.list.specs.declared.Step.{Step}
+use Rattle.list.specs.Questions.{noMeta}
 use Rattle.plan.specs.Default.{stoppingSide, leading, metaCount, step}
-use Rattle.plan.specs.Coarse.{isSmall, coarseCount, noMeta, CountLaws}
+use Rattle.plan.specs.Coarse.{isSmall, coarseCount, CountLaws}
 use Rattle.record.specs.Bytes.{recordOf}
 use Rattle.record.specs.Records.{readAnswer, channelsOf, stepsOf, reachedOf}
 use Rattle.listing.specs.Text.{stepsWord, channelsWord, coarseWord, numbered, stepLines, channelLines}

@@ -1,22 +1,22 @@
 -- Programs that must not get through (document 01, "Contract by contract", c; document 02, A.2): what each would leave in the slice that it fills,
--- or print as the coarse count. None agrees with the contracts of `squeeze_rebuild`, `squeeze_write` and `squeeze_listing`. Statements only; proofs/Wrong.antt
--- proves them by three records.
+-- or print as the coarse count. None agrees with the contracts of `squeeze_rebuild`, `squeeze_write` and `squeeze_listing`. Statements only;
+-- proofs/Wrong.antt proves them by three records.
 use mathlib.Core.Path.{_≡_}
 use mathlib.Core.Bool.{Bool, cond}
 use mathlib.Core.List.{List, [], _∷_}
-use Prim.Native.Nat.{ℕ, _+_}
+use Prim.Native.Nat.{ℕ, _+_, _-_}
 use lib.IntN.{ℤ}
 use lib.ListN.{length}
 use Rattle.channel.specs.declared.Channel.{Channel}
 use Rattle.list.specs.declared.Step.{Step}
 use Rattle.list.specs.Lists.{stepped}
-use Rattle.plan.specs.Default.{stoppingSide, leading}
+use Rattle.plan.specs.Default.{stoppingSide, leading, metaCount}
 use Rattle.plan.specs.Coarse.{isSmall, isCoarse, coarseCount}
-use Rattle.plan.specs.StandardDefault.{others}
 use Rattle.record.specs.Records.{readAnswer, channelsOf, stepsOf, reachedOf}
 use Rattle.buffer.specs.Buffer.{zeros}
 use Rattle.runs.specs.Runs.{stepBack, stepForward}
 use Rattle.squeeze.specs.Entry.{answer, pictureOf, pyramidOf}
+use Rattle.claims.specs.Coarse.{coarseOf}
 
 -- the filled slice afterwards, from the record, the slice that is read and the slices as they came
 abbrev pub Program : Type 0
@@ -68,7 +68,7 @@ abbrev pub Count : Type 0
 Count = List ℕ → ℕ
 
 abbrev pub CountRefuted : Count → Type 0
-CountRefuted f = ((bytes : List ℕ) → readAnswer bytes ≡ 0 → f bytes ≡ coarseCount stoppingSide (reachedOf bytes)) → ⊥
+CountRefuted f = ((bytes : List ℕ) → readAnswer bytes ≡ 0 → f bytes ≡ coarseOf bytes) → ⊥
 
 -- one number for every record, every channel of the rewritten list, and the count of the list before the plan
 abbrev pub always : ℕ → Count
@@ -85,7 +85,7 @@ abbrev pub smallOnly : Count
 smallOnly bytes = leading (isSmall stoppingSide) (reachedOf bytes)
 
 abbrev pub metasLeftOut : Count
-metasLeftOut bytes = coarseCount stoppingSide (others (reachedOf bytes))
+metasLeftOut bytes = coarseOf bytes - metaCount (reachedOf bytes)
 
 abbrev pub among : (Channel → Bool) → List Channel → ℕ
 among p [] = 0

@@ -23,10 +23,14 @@ ask answer number next = cond answer next number
 unfoldable pub countAllowed : ℕ → Bool
 countAllowed count = leb 1 count && leb count maxChannels
 
+-- a list without a meta channel
+abbrev pub noMeta : List Channel → Bool
+noMeta cs = all (λ c. not (isMeta c)) cs
+
 -- 4. "meta channels first"
 abbrev pub metaFirst : List Channel → Bool
 metaFirst [] = true
-metaFirst (c ∷ cs) = cond (isMeta c) (metaFirst cs) (all (λ d. not (isMeta d)) cs)
+metaFirst (c ∷ cs) = cond (isMeta c) (metaFirst cs) (noMeta cs)
 
 -- 4. "Are shifts 0 to 30 or both 255, meta channels first"
 unfoldable pub channelsAllowed : List Channel → Bool

@@ -10,11 +10,11 @@ use borrow.Author.Tests.{not-true, leb-true, le-leb, ltb-true, ltb-false}
 use Rattle.channel.specs.declared.Channel.{Channel}
 use Rattle.channel.specs.Channel.{isMeta}
 use Rattle.list.specs.Tables.{all}
-use Rattle.list.specs.Questions.{metaFirst, channelOf}
+use Rattle.list.specs.Questions.{noMeta, metaFirst, channelOf}
 use Rattle.plan.specs.Default as Default
 use Rattle.plan.specs.Default.{leading, metaCount}
 use Rattle.plan.specs.Coarse as Coarse
-use Rattle.plan.specs.Coarse.{isSmall, isCoarse, coarseCount, noMeta, OthersSmall, CountLaws}
+use Rattle.plan.specs.Coarse.{isSmall, isCoarse, coarseCount, OthersSmall, IsCount, CountLaws}
 
 -- ---- the leading channels that pass a test
 module _ (p : Channel → Bool) where
@@ -105,6 +105,23 @@ module _ (stop : ℕ) where
       go k h true e = meta-coarse (channelOf cs k) e
       go k h false e = plain-coarse (channelOf cs k) e ∙ sides-small (channelOf cs k) (s k h e)
 
+  is-count : (cs : List Channel) → IsCount stop cs (coarseCount stop cs)
+  unfolding coarseCount
+  is-count cs =
+      record { within = leading-within (isCoarse stop) cs; counted = leading-counted (isCoarse stop) cs; ended = leading-ended (isCoarse stop) cs }
+
+  -- of two different numbers the larger counts a channel at which the smaller ends
+  apart : (cs : List Channel) (m n : ℕ) → m < n → IsCount stop cs m → IsCount stop cs n → ⊥
+  apart cs m n h a b = let w = b .within in true≢false (sym (b .counted m h) ∙ a .ended (omega arith))
+
+  only : (cs : List Channel) (n : ℕ) → IsCount stop cs n → n ≡ coarseCount stop cs
+  only cs n a = go (ltb n (coarseCount stop cs)) (ltb (coarseCount stop cs) n) refl refl
+    where
+      go : (b c : Bool) → ltb n (coarseCount stop cs) ≡ b → ltb (coarseCount stop cs) n ≡ c → n ≡ coarseCount stop cs
+      go true c e f = absurd (apart cs n (coarseCount stop cs) (ltb-true n (coarseCount stop cs) e) a (is-count cs))
+      go false true e f = absurd (apart cs (coarseCount stop cs) n (ltb-true (coarseCount stop cs) n f) (is-count cs) a)
+      go false false e f = omega (arith, ltb-false n (coarseCount stop cs) e, ltb-false (coarseCount stop cs) n f)
+
   parts : (cs : List Channel) → metaFirst cs ≡ true → coarseCount stop cs ≡ metaCount cs + leading (isSmall stop) (drop (metaCount cs) cs)
   unfolding coarseCount Default.metaCount
   parts [] f = refl
@@ -121,9 +138,8 @@ module _ (stop : ℕ) where
   unfolding coarseCount Default.metaCount
   count-laws cs =
       record {
-        within = leading-within (isCoarse stop) cs;
-        counted = leading-counted (isCoarse stop) cs;
-        ended = leading-ended (isCoarse stop) cs;
+        counts = is-count cs;
+        only = only cs;
         metas = leading-more isMeta (isCoarse stop) meta-coarse cs;
         all-small = all-small cs;
         small-all = small-all cs;

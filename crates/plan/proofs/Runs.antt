@@ -9,14 +9,13 @@ use Rattle.channel.specs.Channel.{shiftsAllowed}
 use Rattle.list.specs.declared.Step.{Step}
 use Rattle.list.specs.Lists.{stepped, total}
 use Rattle.list.specs.Tables.{all}
-use Rattle.list.specs.Questions.{ask, metaFirst, channelsAllowed, judgeStep}
+use Rattle.list.specs.Questions.{ask, noMeta, metaFirst, channelsAllowed, judgeStep}
 use Rattle.list.specs.Accepted.{Accepted}
 pub use Rattle.list.proofs.Asking.{none-refused}
 use Rattle.list.proofs.Acceptance.{step-accepted}
 use Rattle.list.proofs.Totals.{stepped-total}
 use Rattle.list.proofs.Kept.{stepped-allowed, stepped-plain}
 use Rattle.plan.specs.Plans.{judgeSteps, steppedAll}
-use Rattle.plan.specs.Coarse.{noMeta}
 
 -- ---- two plans joined: the second is judged on the list that the first one leaves
 pub stepped-append : (ss ts : List Step) (cs : List Channel) → steppedAll (ss ++ ts) cs ≡ steppedAll ts (steppedAll ss cs)

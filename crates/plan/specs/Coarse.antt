@@ -1,15 +1,14 @@
 -- The coarse count (document 01, "The list and the plan"; document 02, A.2), as a function of the side at which plans stop, and the laws of it that
 -- clerks rely on. Definitions and statements only; proofs/Coarse.antt proves them.
 use mathlib.Core.Path.{_≡_}
-use mathlib.Core.Bool.{Bool, true, false, not, _&&_, _||_}
+use mathlib.Core.Bool.{Bool, true, false, _&&_, _||_}
 use mathlib.Core.List.{List}
 use Prim.Native.Nat.{ℕ, _+_, _<_, _≤_}
 use lib.Dec.{leb}
 use lib.ListN.{length, drop}
 use Rattle.channel.specs.declared.Channel.{Channel}
 use Rattle.channel.specs.Channel.{isMeta}
-use Rattle.list.specs.Tables.{all}
-use Rattle.list.specs.Questions.{metaFirst, channelOf}
+use Rattle.list.specs.Questions.{noMeta, metaFirst, channelOf}
 use Rattle.plan.specs.Default.{leading, metaCount}
 
 -- no side above the stopping side
@@ -25,18 +24,20 @@ unfoldable pub coarseCount : ℕ → List Channel → ℕ
 coarseCount stop cs = leading (isCoarse stop) cs
 
 -- ---- the laws
-abbrev pub noMeta : List Channel → Bool
-noMeta cs = all (λ c. not (isMeta c)) cs
-
 -- every channel that is not meta has no side above the stopping side
 abbrev pub OthersSmall : ℕ → List Channel → Type 0
 OthersSmall stop cs = (k : ℕ) → k < length cs → isMeta (channelOf cs k) ≡ false → (channelOf cs k .width ≤ stop) × (channelOf cs k .height ≤ stop)
 
+-- so many leading channels are coarse, and no more
+pub record IsCount (stop : ℕ) (cs : List Channel) (n : ℕ) : Type 0 where
+  pub within : n ≤ length cs
+  pub counted : (k : ℕ) → k < n → isCoarse stop (channelOf cs k) ≡ true
+  pub ended : n < length cs → isCoarse stop (channelOf cs n) ≡ false
+
 pub record CountLaws (stop : ℕ) (cs : List Channel) : Type 0 where
-  -- the channels counted are coarse, and the one after them, if there is one, is not: no other number is such
-  pub within : coarseCount stop cs ≤ length cs
-  pub counted : (k : ℕ) → k < coarseCount stop cs → isCoarse stop (channelOf cs k) ≡ true
-  pub ended : coarseCount stop cs < length cs → isCoarse stop (channelOf cs (coarseCount stop cs)) ≡ false
+  -- the channels counted are coarse, and the one after them, if there is one, is not; no other number is such
+  pub counts : IsCount stop cs (coarseCount stop cs)
+  pub only : (n : ℕ) → IsCount stop cs n → n ≡ coarseCount stop cs
   -- every leading meta channel is counted
   pub metas : metaCount cs ≤ coarseCount stop cs
   -- the count is the channel count exactly when every channel that is not meta has no side above the stopping side
