@@ -10,6 +10,7 @@ use squeeze_compare::{records, Tally};
 use squeeze_model::listing;
 use std::ffi::{OsStr, OsString};
 use std::io::{BufRead, BufReader, Read, Write};
+use std::ops::Deref;
 use std::os::unix::fs::{symlink, PermissionsExt};
 use std::path::{Path, PathBuf};
 use std::process::{Command, Output, Stdio};
@@ -25,14 +26,35 @@ fn repository() -> &'static Path {
     host.parent().expect("host/ lies in the repository")
 }
 
-/// The directory of one test, empty.
-fn place(name: &str) -> PathBuf {
-    let place = Path::new(env!("CARGO_TARGET_TMPDIR"))
-        .join("launcher")
-        .join(name);
-    let _ = fs::remove_dir_all(&place);
-    fs::create_dir_all(&place).expect("a directory");
-    place
+fn emptied(dir: PathBuf) -> PathBuf {
+    let _ = fs::remove_dir_all(&dir);
+    fs::create_dir_all(&dir).expect("a directory");
+    dir
+}
+
+/// The directory of one test, gone when the test ends. It lies outside the
+/// repository, since `rt check` wants every source below it to be a crate's.
+struct Place(PathBuf);
+
+impl Place {
+    fn new(name: &str) -> Place {
+        let name = format!("squeeze-list-{}-{name}", std::process::id());
+        Place(emptied(env::temp_dir().join(name)))
+    }
+}
+
+impl Deref for Place {
+    type Target = Path;
+
+    fn deref(&self) -> &Path {
+        &self.0
+    }
+}
+
+impl Drop for Place {
+    fn drop(&mut self) {
+        let _ = fs::remove_dir_all(&self.0);
+    }
 }
 
 fn write_script(path: &Path, text: &str) {
@@ -43,7 +65,7 @@ fn write_script(path: &Path, text: &str) {
 /// The search path without `rt`: a directory that has one is replaced by links to
 /// the others of its files.
 fn path_without_rt() -> OsString {
-    let links = place("path-without-rt");
+    let links = emptied(Path::new(env!("CARGO_TARGET_TMPDIR")).join("path-without-rt"));
     let path = env::var_os("PATH").expect("a search path");
     let mut dirs = Vec::new();
     for (k, dir) in env::split_paths(&path).enumerate() {
@@ -127,8 +149,8 @@ fn built() -> Option<&'static OsString> {
 }
 
 /// A tree with the repository's sources and its proved program.
-fn copy(name: &str) -> PathBuf {
-    let tree = place(name);
+fn copy(name: &str) -> Place {
+    let tree = Place::new(name);
     fs::create_dir_all(tree.join("target/bin")).expect("a directory");
     for part in [
         "crates",
@@ -268,8 +290,8 @@ fn the_program_beside_the_model() {
 /// A tree whose program prints how many bytes it read and their sum, and whose
 /// `rt` notes each call, wants to be alone, and fails if there is a file `fails`.
 /// Gives the search path too.
-fn played(name: &str) -> (PathBuf, OsString) {
-    let tree = place(name);
+fn played(name: &str) -> (Place, OsString) {
+    let tree = Place::new(name);
     for dir in ["crates/one/src", "crates/squeeze_list/src", "bin"] {
         fs::create_dir_all(tree.join(dir)).expect("a directory");
     }

@@ -18,7 +18,7 @@ fn by_hand() {
     let (palette, small_palette) = (Channel::meta(300, 1), Channel::meta(40, 2));
     let (picture, dot) = (Channel::new(20, 9), Channel::new(1, 1));
     let rows: [(&[Channel], &[Step], usize, &str); 7] = [
-        (&[palette, picture], &[], 3, "before a picture"),
+        (&[palette, picture], &[], 3, "of the rewritten list"),
         (
             &[palette, small_palette, picture],
             &[step(true, 1)],
@@ -38,7 +38,7 @@ fn by_hand() {
             &[palette, picture, dot],
             &[step(true, 2)],
             1,
-            "of the rewritten list",
+            "a picture that is left large ends it",
         ),
     ];
     for (channels, steps, coarse, why) in rows {
@@ -49,8 +49,8 @@ fn by_hand() {
 }
 
 /// Every list of one to three of these, with and without a step: core and model
-/// agree, and the laws that clerks rely on hold. How many were accepted, and how
-/// many of them had a palette with a side above 8.
+/// agree, and the laws that clerks rely on hold. Enough lists are accepted, and
+/// enough of them have a palette with a side above 8.
 #[test]
 fn every_short_list() {
     let kinds = [
