@@ -13,10 +13,11 @@ pub fn unsqueeze_block(
 ) -> [[i32; 8]; 2]
     ensures { λ r. ⌜ r ≡ unsqueezed avg res next prev ⌝ }
 {
-    let mut firsts = [0i32; 8];
-    let mut seconds = [0i32; 8];
+    // Copies, so that the block is small enough to be inlined at each call.
+    let mut firsts = avg;
+    let mut seconds = prev;
     for i in 0..8 {
-        let p = unsqueeze_lane(avg[i], res[i], next[i], prev[i]);
+        let p = unsqueeze_lane(firsts[i], res[i], next[i], seconds[i]);
         let first = p.first;
         let second = p.second;
         firsts[i] = first;

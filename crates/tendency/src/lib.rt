@@ -13,7 +13,7 @@ use arith32::wrapping_sub;
 fn opposite(x: i32, y: i32) -> bool
     ensures { λ r. ⌜ r ≡ Tend.opposite x y ⌝ }
 {
-    ((x < 0) & (0 < y)) | ((0 < x) & (y < 0))
+    ((x < 0) != (y < 0)) & ((x != 0) & (y != 0))
 }
 
 fn slope(p: i32, r: i32) -> i32
@@ -22,12 +22,13 @@ fn slope(p: i32, r: i32) -> i32
     wrapping_add(wrapping_add(2, r), third(p)) >> 2
 }
 
+// Twice p is even, so the lowest bit may go to either side of the comparison.
 fn clamp_before(p: i32, v: i32) -> i32
     ensures { λ r. ⌜ r ≡ Tend.clampBefore p v ⌝ }
 {
     let twice = wrapping_add(p, p);
     let clamped = wrapping_add(twice, 1);
-    if wrapping_add(twice, lowest_bit(v)) < v {
+    if twice < wrapping_sub(v, lowest_bit(v)) {
         clamped
     } else {
         v

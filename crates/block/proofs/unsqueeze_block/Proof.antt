@@ -1,6 +1,6 @@
--- `unsqueeze_block` meets its contract. The loop's invariant: both blocks are filled up to lane i (proofs/Lanes.antt).
--- The measure is the lanes that are left. Assumes nothing.
-use mathlib.Core.Path.{_≡_, refl, _∙_}
+-- `unsqueeze_block` meets its contract. The loop's invariant: both blocks, which begin as copies of avg and prev, are filled up to lane i
+-- (proofs/Lanes.antt). The measure is the lanes that are left. Assumes nothing.
+use mathlib.Core.Path.{_≡_, _∙_}
 use Prim.Native.Nat.{_-_, _≤_}
 use native.Mathlib.Omega.{arith}
 use borrow.Author.Needs.{needs}
@@ -13,16 +13,16 @@ use Rattle.block.proofs.unsqueeze_block.Statement.{statement}
 use Rattle.block.proofs.unsqueeze_block.Tie as tie
 
 abbrev Inv-loop : tie.InvT-loop
-Inv-loop avg res next prev firsts₀ seconds₀ i₀ firsts seconds i =
-    Filled first avg res next prev 8 firsts i × Filled second avg res next prev 8 seconds i × (i ≤ 8)
+Inv-loop res next avg prev i₀ firsts seconds i =
+    Filled first avg res next prev avg 8 firsts i × Filled second avg res next prev prev 8 seconds i × (i ≤ 8)
 
 abbrev μ-loop : tie.MeasureT-loop
-μ-loop avg res next prev firsts₀ seconds₀ i₀ firsts seconds i = 8 - i
+μ-loop res next avg prev i₀ firsts seconds i = 8 - i
 
 loop-holds : tie.Need-loop-holds Inv-loop μ-loop
 loop-holds c = (
-  filled-none first (c .args .t1) (c .args .t2) (c .args .t3) (c .args .t4) 8 _ refl,
-  filled-none second (c .args .t1) (c .args .t2) (c .args .t3) (c .args .t4) 8 _ refl,
+  filled-none first (c .args .avg) (c .args .t2) (c .args .t3) (c .args .prev) (c .args .avg) 8 (search needs),
+  filled-none second (c .args .avg) (c .args .t2) (c .args .t3) (c .args .prev) (c .args .prev) 8 (search needs),
   omega arith,
 )
 
@@ -79,14 +79,16 @@ loop-again c =
     let i = head .loop .i in
     let l = turn .loop-test .taken in
     let pair = c .before .before .unsqueeze-lane in
-    let b1 = back32 (getD (a .t1) i (pos 0)) (c .before .before .before .before .before .before .unsqueeze-lane-arg .given) in
+    let firsts = head .loop .inv .0 in
+    let seconds = head .loop .inv .1 in
+    let b1 = back32 (getD (head .loop .firsts) i (pos 0)) (c .before .before .before .before .before .before .unsqueeze-lane-arg .given) ∙ firsts .rest i (omega arith) in
     let b2 = back32 (getD (a .t2) i (pos 0)) (c .before .before .before .before .before .unsqueeze-lane-arg2 .given) in
     let b3 = back32 (getD (a .t3) i (pos 0)) (c .before .before .before .before .unsqueeze-lane-arg3 .given) in
-    let b4 = back32 (getD (a .t4) i (pos 0)) (c .before .before .before .unsqueeze-lane-arg4 .given) in
+    let b4 = back32 (getD (head .loop .seconds) i (pos 0)) (c .before .before .before .unsqueeze-lane-arg4 .given) ∙ seconds .rest i (omega arith) in
     let e1 = back32 (pair .result .first) (c .before .struct-told .given .0 .1) ∙ rw (b1, b2, b3, b4) at (pair .ensures .0) in
     let e2 = back32 (pair .result .second) (c .struct-told2 .given .1 .0 .1) ∙ rw (b1, b2, b3, b4) at (pair .ensures .1) in (
-      filled-more first (a .t1) (a .t2) (a .t3) (a .t4) 8 (head .loop .firsts) i _ (head .loop .inv .0) l e1,
-      filled-more second (a .t1) (a .t2) (a .t3) (a .t4) 8 (head .loop .seconds) i _ (head .loop .inv .1) l e2,
+      filled-more first (a .avg) (a .t2) (a .t3) (a .prev) (a .avg) 8 (head .loop .firsts) i _ firsts l e1,
+      filled-more second (a .avg) (a .t2) (a .t3) (a .prev) (a .prev) 8 (head .loop .seconds) i _ seconds l e2,
       omega arith,
     )
 
@@ -98,8 +100,8 @@ returns c =
     let firsts = rw e at (head .loop .inv .0) in
     let seconds = rw e at (head .loop .inv .1) in
     rw (
-      filled-all first 8 (a .t1) (a .t2) (a .t3) (a .t4) (head .loop .firsts) (search needs) (search needs) (search needs) (search needs) firsts,
-      filled-all second 8 (a .t1) (a .t2) (a .t3) (a .t4) (head .loop .seconds) (search needs) (search needs) (search needs) (search needs) seconds,
+      filled-all first 8 (a .avg) (a .t2) (a .t3) (a .prev) (a .avg) (head .loop .firsts) (search needs) (search needs) (search needs) (search needs) firsts,
+      filled-all second 8 (a .avg) (a .t2) (a .t3) (a .prev) (a .prev) (head .loop .seconds) (search needs) (search needs) (search needs) (search needs) seconds,
     )
 
 pub unsqueeze-block-spec : {M : Type 1} → statement M

@@ -1,18 +1,13 @@
 -- `turns` meets its contract: one return for each sign of x, at which the other half of `opposite` is false. Assumes nothing.
-use mathlib.Core.Path.{_≡_, sym}
-use mathlib.Core.Bool.{true, false, _||_, or-false}
-use native.Mathlib.Omega.{arith}
-use lib.IntN.{ℤ, pos}
+use mathlib.Core.Path.{sym}
+use mathlib.Core.Bool.{or-false}
+use lib.IntN.{pos}
 use lib.Signed.{ltZ}
 use mir.Facts.{toZ-ofZ}
-use Rattle.arith32.proofs.Whole.{above, below, less, not-less, is-not-less}
 use Rattle.tendency.specs.Tendency.{opposite}
+use Rattle.tendency.proofs.Signs.{not-above}
 use Rattle.tendency.proofs.turns.Statement.{statement}
 use Rattle.tendency.proofs.turns.Tie as tie
-
-not-above : (x : ℤ) → ltZ x (pos 0) ≡ true → ltZ (pos 0) x ≡ false
-unfolding above below
-not-above x h = is-not-less (pos 0) x (omega (arith, less x (pos 0) h))
 
 returns : tie.Need-returns
 unfolding opposite
