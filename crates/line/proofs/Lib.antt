@@ -2,6 +2,9 @@ pub mod Tables
 pub mod Places
 pub mod Lines
 pub mod Outputs
+pub mod Outers
+pub mod Pairs
+pub mod Into
 pub mod Plain
 pub mod Alone
 pub mod ThereAndBack
