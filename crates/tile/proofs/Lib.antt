@@ -1,15 +1,3 @@
-pub mod Strides
-pub mod Taken
-pub mod Outers
-pub mod Written
-pub mod Turns
-pub mod Strips
-pub mod Bands
-pub mod Pastes
-pub mod TwoRows
-pub mod OuterRows
-pub mod ColumnOutputs
-pub mod RowPairs
 pub mod Fitted
 pub mod Accepted
 pub mod AsStandard

@@ -2,14 +2,8 @@
 // `do_vsqueeze_step`): a rectangle of samples from its averages and residuals,
 // with a neighbour line on either side or none. Total: questions 5, 12 and 14
 // in that order, each refusal with its number and the output slice untouched.
-mod columns;
-mod lanes;
-mod rows;
-
 ghost use mathlib.Core.Path.{_≡_};
-ghost use Prim.Native.Nat.{_+_, _*_};
-ghost use lib.ListN.{length};
-ghost use Rattle.line.specs.Uncut.{Fitting, uncut};
+ghost use Rattle.line.specs.Into.{uncutInto};
 ghost use Rattle.tile.specs.Call as Call;
 use numbers::MAX_SAMPLES;
 use numbers::MAX_SIDE;
@@ -73,7 +67,7 @@ fn sides_fit(horizontal: bool, a: Sides, r: Sides, o: Sides) -> bool
             & ((across(horizontal, r) == crossing) & (across(horizontal, o) == crossing)))
 }
 
-// The squeeze's output from its averages and residuals, whose sizes fit.
+// The squeeze's output from its averages and residuals, where sizes fit.
 fn unsqueeze<'a>(
     horizontal: bool,
     a: Sides,
@@ -84,12 +78,8 @@ fn unsqueeze<'a>(
     prev: &'a [i32],
     out: &mut [i32],
 )
-    requires { ⌜ Fitting (Call.squeezeOn horizontal a r (now avg) (now res) (now next) (now prev)) × (length (now out) ≡ Call.across horizontal a * (Call.along horizontal a + Call.along horizontal r)) ⌝ }
-    ensures { λ _. ⌜ now (out .exit) ≡ uncut (Call.squeezeOn horizontal a r (now (avg .entry)) (now (res .entry)) (now (next .entry)) (now (prev .entry))) ⌝ }
+    ensures { λ _. ⌜ now (out .exit) ≡ uncutInto (Call.squeezeOn horizontal a r (now (avg .entry)) (now (res .entry)) (now (next .entry)) (now (prev .entry))) (now (out .entry)) ⌝ }
 {
-    if out.len() == 0 {
-        return;
-    }
     let aw = a.width;
     let ah = a.height;
     let rw = r.width;

@@ -5,6 +5,7 @@ use mathlib.Core.Bool.{Bool, true, false, _&&_, not}
 use Prim.Native.Nat.{ℕ, _+_, _*_, _≤_}
 use native.Mathlib.Omega.{arith}
 use borrow.Author.Needs.{needs}
+use Rattle.line.proofs.Into.{fitting-fits, into-fits}
 use Rattle.tile.specs.Call.{Call, call, areaAllowed, areasAllowed, sizesFit, slicesFit, squeezeOf}
 use Rattle.tile.proofs.Fitted.{and-true, not-false, not-true, five, thirteen, twelve, none, kept, made, area-small, fitting, out-length}
 use Rattle.tile.proofs.squeeze_tile.Statement.{statement}
@@ -109,10 +110,7 @@ returns-3 c =
     (sym n, sym (kept k 11 n))
 
 unsqueeze-requires : tie.Need-unsqueeze-requires
-unsqueeze-requires c κs =
-    let q = c .before .before in
-    let k = the-call (q .before .before .before .before .before .before .before .before .before) in
-    (fitting k (sizes-yes q) (slices-yes (c .before)), out-length k (sizes-yes q) (slices-yes (c .before)))
+unsqueeze-requires c κs = search needs
 
 same-length : tie.Need-same-length
 same-length c = search needs
@@ -125,7 +123,8 @@ returns-4 c =
     let e = q .before .before .before .before .before in
     let k = the-call (e .before .before .before .before) in
     let n = none k (areas-yes e) (sizes-yes q) (slices-yes f) in
-    (sym n, c .before .unsqueeze .ensures ∙ sym (made k n))
+    let fits = fitting-fits _ _ _ (k .avg) (k .res) (k .next) (k .prev) (k .out) (fitting k (sizes-yes q) (slices-yes f)) (out-length k (sizes-yes q) (slices-yes f)) in
+    (sym n, c .before .unsqueeze .ensures ∙ sym (made k n ∙ into-fits (squeezeOf k) (k .out) fits))
 
 pub squeeze-tile-spec : {M : Type 1} → statement M
 squeeze-tile-spec =

@@ -1,0 +1,4 @@
+pub mod Strides
+pub mod Fours
+pub mod Blocks
+pub mod Taken

@@ -1,0 +1,3 @@
+pub mod Row
+pub mod Strips
+pub mod Bands
