@@ -21,7 +21,7 @@ import sys
 from rules import MAX_SAMPLES, line
 
 KINDS = {kind: [] for kind in
-         ['published', 'table', 'sizes', 'limits', 'areas', 'misfits', 'lengths', 'order', 'cuts']}
+         ['published', 'table', 'sizes', 'ends', 'limits', 'areas', 'misfits', 'lengths', 'order', 'cuts']}
 MAX_SIDE = 65_535
 dice = random.Random()
 
@@ -144,6 +144,22 @@ def sizes():
             for k, (following, before) in enumerate(pairs):
                 s = squeeze(h, alongs[i], acrosses[j], following, before, (i + k) % 2 == 0)
                 accepted('sizes', s, s.output())
+
+
+# The lines' ends, each line in one piece by the rule: no pair, one, two, and around the eight pairs that a part has, with a tail and without, beside
+# every choice of outer lines. One line is taken singly; of nine, eight go through the block. Samples over the full range, and at its very ends.
+
+EDGES = [-2**31, -2**31 + 1, -1, 0, 1, 2**31 - 2, 2**31 - 1]
+
+
+def ends():
+    for h, pairs, tail, across in itertools.product((True, False), (0, 1, 2, 7, 8, 9, 16, 17), (0, 1), (1, 9)):
+        for following, before in itertools.product((False, True), repeat=2):
+            s = squeeze(h, 2 * pairs + tail, across, following, before, False)
+            if (pairs + tail + following + before) % 2:
+                s.avg = [[dice.choice(EDGES) for _ in line] for line in s.avg]
+                s.res = [[dice.choice(EDGES) for _ in line] for line in s.res]
+            accepted('ends', s, s.output())
 
 
 # At the limits of questions 5 and 12, on either side.
@@ -291,7 +307,7 @@ def cuts():
 
 dice.seed(0)
 published(sys.argv[1])
-for make in (table, sizes, limits, areas, misfits, lengths, order, cuts):
+for make in (table, sizes, ends, limits, areas, misfits, lengths, order, cuts):
     dice.seed(make.__name__)
     make()
 for cases in KINDS.values():

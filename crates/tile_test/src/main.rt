@@ -1,6 +1,6 @@
 // Replays tile calls (tests/tiles.py made `stdin`): what the published Rust
-// answered, what document 01's rule gives around the block's sizes, each refusal,
-// and squeezes uncut and cut. The answer, every sample of the output and the
+// answered, what document 01's rule gives around the block's sizes and at the
+// lines' ends, each refusal, and squeezes uncut and cut. The answer, every sample of the output and the
 // samples around it are compared. Prints, for each kind of case, how many there
 // were and how many came out right.
 ghost use Prim.Native.Nat.{_<_, _≤_};
@@ -176,6 +176,7 @@ fn main() {
     kind(b"published ");
     kind(b"table ");
     kind(b"sizes ");
+    kind(b"ends ");
     kind(b"limits ");
     kind(b"areas ");
     kind(b"misfits ");
