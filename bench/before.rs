@@ -1,0 +1,126 @@
+//! Times tile calls of two archives in turn, in one run, after comparing the
+//! results: `before_tile` of an earlier commit, `squeeze_tile` of this tree.
+//!
+//! usage: before [SECONDS-PER-ROW]
+
+use std::time::Instant;
+
+type Tile = unsafe extern "C" fn(
+    u32, usize, usize, usize, usize, usize, usize,
+    *const i32, usize, *const i32, usize, *const i32, usize, *const i32, usize,
+    *mut i32, usize,
+) -> u32;
+
+#[link(name = "before", kind = "static")]
+extern "C" {
+    fn before_tile(
+        horizontal: u32, aw: usize, ah: usize, rw: usize, rh: usize, ow: usize, oh: usize,
+        avg: *const i32, avg_len: usize, res: *const i32, res_len: usize,
+        next: *const i32, next_len: usize, prev: *const i32, prev_len: usize,
+        out: *mut i32, out_len: usize,
+    ) -> u32;
+}
+
+#[link(name = "squeeze", kind = "static")]
+extern "C" {
+    fn squeeze_tile(
+        horizontal: u32, aw: usize, ah: usize, rw: usize, rh: usize, ow: usize, oh: usize,
+        avg: *const i32, avg_len: usize, res: *const i32, res_len: usize,
+        next: *const i32, next_len: usize, prev: *const i32, prev_len: usize,
+        out: *mut i32, out_len: usize,
+    ) -> u32;
+}
+
+fn samples(n: usize, seed: u64) -> Vec<i32> {
+    let mut s = seed | 1;
+    (0..n)
+        .map(|_| {
+            s ^= s << 13;
+            s ^= s >> 7;
+            s ^= s << 17;
+            (s >> 56) as i32 - 128
+        })
+        .collect()
+}
+
+/// A call's sides and slices, without outer lines.
+struct Call {
+    horizontal: bool,
+    w: usize,
+    h: usize,
+    avg: Vec<i32>,
+    res: Vec<i32>,
+}
+
+impl Call {
+    fn new(horizontal: bool, w: usize, h: usize) -> Self {
+        let (m, n) = Self::counts(horizontal, w, h);
+        let across = if horizontal { h } else { w };
+        Call { horizontal, w, h, avg: samples(m * across, 7), res: samples(n * across, 11) }
+    }
+
+    /// Averages and residuals along the squeeze.
+    fn counts(horizontal: bool, w: usize, h: usize) -> (usize, usize) {
+        let size = if horizontal { w } else { h };
+        (size - size / 2, size / 2)
+    }
+
+    fn run(&self, tile: Tile, out: &mut [i32]) {
+        let (m, n) = Self::counts(self.horizontal, self.w, self.h);
+        let (aw, ah, rw, rh) =
+            if self.horizontal { (m, self.h, n, self.h) } else { (self.w, m, self.w, n) };
+        let answer = unsafe {
+            tile(
+                self.horizontal as u32, aw, ah, rw, rh, self.w, self.h,
+                self.avg.as_ptr(), self.avg.len(), self.res.as_ptr(), self.res.len(),
+                std::ptr::null(), 0, std::ptr::null(), 0, out.as_mut_ptr(), out.len(),
+            )
+        };
+        assert_eq!(answer, 0);
+    }
+}
+
+/// Nanoseconds per sample of calls for a hundredth of a second, one at least.
+fn round(call: &Call, tile: Tile, out: &mut [i32]) -> f64 {
+    let (start, mut runs) = (Instant::now(), 0);
+    while runs == 0 || start.elapsed().as_secs_f64() < 0.01 {
+        call.run(tile, out);
+        runs += 1;
+    }
+    start.elapsed().as_secs_f64() / (runs * out.len()) as f64 * 1e9
+}
+
+/// The least of each over as many rounds as fit, the two in turn.
+fn both(seconds: f64, call: &Call) -> (f64, f64) {
+    let mut out = vec![0; call.w * call.h];
+    let mut other = vec![1; call.w * call.h];
+    call.run(before_tile, &mut out);
+    call.run(squeeze_tile, &mut other);
+    assert!(out == other, "the two archives differ");
+    let (mut before, mut after, start) = (f64::MAX, f64::MAX, Instant::now());
+    while start.elapsed().as_secs_f64() < seconds {
+        before = before.min(round(call, before_tile, &mut out));
+        after = after.min(round(call, squeeze_tile, &mut out));
+    }
+    (before, after)
+}
+
+fn main() {
+    let seconds: f64 = std::env::args().nth(1).and_then(|s| s.parse().ok()).unwrap_or(1.0);
+    println!("{:<28} {:>10} {:>8} {:>8}", "ns per output sample", "ratio", "before", "after");
+    let mut large = Vec::new();
+    for (horizontal, w, h) in [
+        (true, 65535, 1), (true, 65535, 8), (true, 4096, 4096), (true, 1024, 1024), (true, 256, 256), (true, 16, 4096),
+        (true, 4, 4096), (true, 2, 4096), (true, 1, 4096), (false, 4096, 4096), (false, 1024, 1024), (false, 256, 256),
+        (false, 65535, 8), (false, 4096, 2), (false, 4096, 1), (false, 1, 65535),
+    ] {
+        let (before, after) = both(seconds, &Call::new(horizontal, w, h));
+        let name = format!("{} {w} by {h}", if horizontal { "horizontal" } else { "vertical" });
+        println!("{name:<28} {:>10.2} {before:>8.2} {after:>8.2}", after / before);
+        if (w, h) == (4096, 4096) {
+            large.push((before, after));
+        }
+    }
+    let (along, down) = (large[0], large[1]);
+    println!("{:<28} {:>10} {:>8.2} {:>8.2}", "horizontal / vertical, 4096", "", along.0 / down.0, along.1 / down.1);
+}
