@@ -41,7 +41,7 @@ module _ {w m n : ℕ} {avg res next prev : List ℤ} (fitting : Fitting (squeez
   module _ (out : List ℤ) (long : length out ≡ w * (m + n)) where
     -- ---- no pair
     module _ (none : n ≡ 0) where
-      pub averages-room : 0 + length avg ≤ length out
+      averages-room : 0 + length avg ≤ length out
       averages-room = omega (arith, fitting .avg-length)
 
       pub averages-copied : pasted out 0 avg ≡ uncut s

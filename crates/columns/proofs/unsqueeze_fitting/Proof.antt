@@ -7,7 +7,7 @@ use lib.ListN.{length}
 use Rattle.columns.specs.Rows.{rowBefore}
 use Rattle.columns.proofs.Pastes.{pasted}
 use Rattle.line.proofs.Into.{without-previous}
-use Rattle.columns.proofs.AllRows.{first-row-inside, averages-room, averages-copied, before-row-room, pairs-asked, rows-together}
+use Rattle.columns.proofs.AllRows.{first-row-inside, averages-copied, before-row-room, pairs-asked, rows-together}
 use Rattle.columns.proofs.unsqueeze_fitting.Statement.{statement}
 use Rattle.columns.proofs.unsqueeze_fitting.Tie as tie
 
@@ -25,7 +25,7 @@ started-length : (c : tie.After-out2) → length (c .before .copy-row2 .last .1 
 started-length c = c .before .copy-row2 .kept .1 .0
 
 copy-row-requires : tie.Need-copy-row-requires
-copy-row-requires c κs = let s = c .before .before in averages-room (s .pre .0) (s .args .out .now) (s .pre .3) (c .before .if1 .taken)
+copy-row-requires c κs = let s = c .before .before in omega (arith, s .pre .0 .avg-length, s .pre .0 .res-length, s .pre .3)
 
 same-length : tie.Need-same-length
 same-length c = search needs
