@@ -2,8 +2,7 @@
 -- of rows and the end of the lines put together (proofs/Pairs.antt of the crate line). Assumes nothing.
 use mathlib.Core.Path.{_≡_, refl, sym, ap, _∙_}
 use mathlib.Core.Bool.{false}
-use mathlib.Core.List.{List, []}
-use mathlib.Core.Logic.{_⊎_, inl, inr}
+use mathlib.Core.List.{List}
 use Prim.Native.Nat.{ℕ, _+_, _*_, _<_, _≤_}
 use native.Mathlib.Omega.{arith}
 use native.Mathlib.Nat.{mul-le-mul-right}
@@ -12,7 +11,7 @@ use lib.ListN.{length, getD}
 use Rattle.line.specs.Line.{before}
 use Rattle.line.specs.Uncut.{Squeeze, squeeze, Fitting, lineOf, uncut}
 use Rattle.line.specs.Pairs.{linesOf, Ordinary, Ended}
-use Rattle.line.proofs.Lines.{lt-or-ge, before-first}
+use Rattle.line.proofs.Lines.{before-first}
 use Rattle.line.proofs.Pairs.{put-together, copied}
 use Rattle.columns.specs.Rows.{rowBefore}
 use Rattle.columns.proofs.OuterRows.{before-length, before-at}

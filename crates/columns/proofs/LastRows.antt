@@ -12,10 +12,10 @@ use lib.ListN.{length, getD, take, drop, length-drop}
 use lib.Seq.{getD-drop}
 use Rattle.line.specs.Line.{nextAverage}
 use Rattle.line.specs.Uncut.{Squeeze, squeeze, Fitting, lineOf}
-use Rattle.line.specs.Pairs.{inner, OnePair, Ended}
+use Rattle.line.specs.Pairs.{inner, Ended}
 use Rattle.line.proofs.Places.{row-room}
 use Rattle.line.proofs.Lines.{lt-or-ge, next-inside, next-last}
-use Rattle.line.proofs.Pairs.{ended-pair, ended-tail}
+use Rattle.line.proofs.Pairs.{OnePair, ended-pair, ended-tail}
 use Rattle.columns.specs.Rows.{rowAfter, Apart, Columns}
 use Rattle.columns.proofs.OuterRows.{part-length, after-length, after-inside, after-last}
 use Rattle.columns.proofs.Pastes.{pasted, pasted-length, pasted-in, pasted-below}

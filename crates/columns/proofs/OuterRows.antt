@@ -1,12 +1,12 @@
 -- The rows on either side of a pair of rows (specs/Rows.antt) are parts of the averages or an outer line, sample by sample. Assumes nothing.
 use mathlib.Core.Path.{_≡_, refl, sym, _∙_}
-use mathlib.Core.List.{List, [], _∷_}
+use mathlib.Core.List.{List}
 use Prim.Native.Nat.{ℕ, _+_, _-_, _<_, _≤_}
 use native.Mathlib.Omega.{arith}
 use borrow.Author.Tests.{lt-ltb, le-ltb}
 use lib.IntN.{ℤ, pos}
 use lib.ListN.{length, getD, take, drop, length-drop}
-use lib.Seq.{getD-take, getD-drop, drop-cons, drop-nil, length-take-le, take-all}
+use lib.Seq.{getD-take, getD-drop, length-take-le, take-all}
 use Rattle.line.specs.Line.{orElse}
 use Rattle.line.specs.Uncut.{outer, table}
 use Rattle.columns.specs.Rows.{rowBefore, rowAfter}

@@ -9,8 +9,8 @@ use native.Mathlib.Omega.{arith}
 use native.Mathlib.Nat.{mul-le-mul-right}
 use lib.IntN.{ℤ, pos}
 use lib.ListN.{length, getD, take, drop}
-use Rattle.line.specs.Pairs.{linesOf, OnePair, Ordinary}
-use Rattle.line.proofs.Pairs.{none, one, join}
+use Rattle.line.specs.Pairs.{linesOf, Ordinary}
+use Rattle.line.proofs.Pairs.{OnePair, none, one, join}
 use Rattle.columns.specs.Rows.{Apart, Columns}
 use Rattle.columns.proofs.OuterRows.{part-length, part-at}
 

@@ -1,7 +1,7 @@
 -- Pairs of eight rows by blocks (specs/Lanes.antt): the two samples of pair i, put in as two blocks of lanes, are the pair in every row (`block-pair`), and
 -- an ordinary one where the next averages are the next of the averages (`block-ordinary`); four of them make a turn (`four-ordinary`). With the next
 -- averages that are chosen, and the tails after it, it is the rows' end (`block-end`, `block-end-tail`). Assumes nothing.
-use mathlib.Core.Path.{_≡_, refl, sym, ap, _∙_}
+use mathlib.Core.Path.{_≡_, refl, sym, _∙_}
 use mathlib.Core.Bool.{true, cond}
 use mathlib.Core.List.{List}
 use Prim.Native.Nat.{ℕ, _+_, _*_, _<_, _≤_}
@@ -14,9 +14,9 @@ use Rattle.block.specs.Block.{lanes}
 use Rattle.block.proofs.Lanes.{laned}
 use Rattle.line.specs.Line.{orElse, nextAverage, before}
 use Rattle.line.specs.Uncut.{Squeeze, squeeze, outer, lineOf}
-use Rattle.line.specs.Pairs.{Lines, linesOf, inner, avgAt, resAt, at, OnePair, Ordinary, Ended}
+use Rattle.line.specs.Pairs.{Lines, linesOf, inner, avgAt, resAt, at, Ordinary, Ended}
 use Rattle.line.proofs.Lines.{before-first}
-use Rattle.line.proofs.Pairs.{apart, one, join, following-same, next-chosen, ended-pair, ended-tail}
+use Rattle.line.proofs.Pairs.{OnePair, apart, one, join, following-same, next-chosen, ended-pair, ended-tail}
 use Rattle.eight_rows.specs.Lanes.{lanesAt, withLanes, lane}
 use Rattle.eight_rows.proofs.Strides.{lanes-at, lanes-length, lanes-put-length, lanes-put-on, lanes-put-off}
 

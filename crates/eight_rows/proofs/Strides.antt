@@ -1,6 +1,6 @@
 -- Eight lanes `stride` samples apart (specs/Lanes.antt): an array that is filled with them from the front, and what a slice holds at the
 -- lanes and elsewhere after they are put in. Assumes nothing.
-use mathlib.Core.Path.{_≡_, refl, sym, ap, _∙_}
+use mathlib.Core.Path.{_≡_, refl, _∙_}
 use mathlib.Core.List.{List}
 use mathlib.Core.Logic.{_⊎_, inl, inr}
 use Prim.Native.Nat.{ℕ, zero, suc, _+_, _*_, _<_, _≤_}

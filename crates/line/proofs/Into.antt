@@ -6,12 +6,12 @@ use mathlib.Core.List.{List, []}
 use mathlib.Core.Logic.{_⊎_, inl, inr}
 use Prim.Native.Nat.{ℕ, _+_, _*_, _<_, _≤_}
 use native.Mathlib.Omega.{arith}
-use borrow.Author.Tests.{leb-true, eqb-true, eqb-false, le-leb, lt-leb, eq-eqb}
+use borrow.Author.Tests.{leb-true, eqb-true, le-leb, lt-leb, eq-eqb}
 use lib.Dec.{T, eqb, leb}
 use lib.IntN.{ℤ, pos}
 use lib.ListN.{length}
 use lib.Seq.{ext-getD}
-use Rattle.line.specs.Uncut.{Squeeze, squeeze, Fitting, size, uncut}
+use Rattle.line.specs.Uncut.{Squeeze, squeeze, Fitting, uncut}
 use Rattle.line.specs.Into.{outerFits, fits, uncutInto}
 use Rattle.line.proofs.Lines.{lt-or-ge}
 use Rattle.line.proofs.Outputs.{uncut-length}

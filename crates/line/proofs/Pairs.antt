@@ -1,5 +1,5 @@
 -- Laws of the pairs that loops make (specs/Pairs.antt), in either direction. Ordinary pairs join (`join`), so that a loop's turn adds its own; one
--- pair made with the next of the averages is ordinary (`one`). And the way to the line rule: where the positions before are written, ordinary
+-- pair (`OnePair`) made with the next of the averages is ordinary (`one`). And the way to the line rule: where the positions before are written, ordinary
 -- pairs write theirs (`after-ordinary`); with the end of the lines after them the slice is the uncut squeeze (`put-together`). Assumes nothing.
 use mathlib.Core.Path.{_≡_, refl, sym, ap, _∙_}
 use mathlib.Core.Bool.{cond}
@@ -11,9 +11,9 @@ use lib.Dec.{ltb}
 use lib.IntN.{ℤ, pos}
 use lib.ListN.{length, getD}
 use Rattle.pair.specs.Pair.{first, second}
-use Rattle.line.specs.Line.{orElse, nextAverage, before, firstAt, secondAt, sample}
+use Rattle.line.specs.Line.{orElse, nextAverage, before, sample}
 use Rattle.line.specs.Uncut.{Squeeze, Fitting, lineAt, positionAt, outer, lineOf, size, outputAt, uncut}
-use Rattle.line.specs.Pairs.{Lines, inner, avgAt, resAt, at, OnePair, outputBefore, Ordinary, Ended, Upto}
+use Rattle.line.specs.Pairs.{Lines, inner, avgAt, resAt, at, outputBefore, Ordinary, Ended}
 use Rattle.line.proofs.Tables.{is-table}
 use Rattle.line.proofs.Places.{line-room, position-room, place-back, position-back}
 use Rattle.line.proofs.Lines.{Half, even, odd, half, lt-or-ge, sample-first, sample-second, sample-tail, before-next, next-inside}
@@ -28,6 +28,14 @@ apart t k l i j hk hl hi hj d e =
     (sym (position-back (t .horizontal) (t .lines) n k i hk hi)
     ∙ ap (λ (q : ℕ). positionAt (t .horizontal) (t .lines) n q) e
     ∙ position-back (t .horizontal) (t .lines) n l j hl hj)
+
+-- ---- one pair
+-- pair i of every line, made with the next averages and the outputs before it that are given, and nothing else changed
+pub record OnePair (t : Lines) (following prior : ℕ → ℤ) (old new : List ℤ) (i : ℕ) : Type 0 where
+  pub long : length new ≡ length old
+  pub firsts : (k : ℕ) → k < t .lines → getD new (at t k (i + i)) (pos 0) ≡ first (avgAt t k i) (resAt t k i) (following k) (prior k)
+  pub seconds : (k : ℕ) → k < t .lines → getD new (at t k (i + i + 1)) (pos 0) ≡ second (avgAt t k i) (resAt t k i) (following k) (prior k)
+  pub kept : (q : ℕ) → ((k : ℕ) → k < t .lines → (q ≡ at t k (i + i) → ⊥) × (q ≡ at t k (i + i + 1) → ⊥)) → getD new q (pos 0) ≡ getD old q (pos 0)
 
 -- ---- ordinary pairs
 -- the output before, counted from a pair further on
@@ -112,6 +120,11 @@ module _ {t : Lines} where
           (before-join (avgAt t k) (resAt t k) (prior k) (mid k) a c (n - c) (o .handed k hk) ∙ ap (outputBefore (avgAt t k) (resAt t k) (prior k) a) (sym e))
 
 -- ---- to the line rule
+-- the positions before j are written in every line
+pub record Upto (s : Squeeze) (out : List ℤ) (j : ℕ) : Type 0 where
+  pub long : length out ≡ s .lines * size s
+  pub done : (k i : ℕ) → k < s .lines → i < j → getD out (at (inner s) k i) (pos 0) ≡ sample (lineOf s k) i
+
 -- the outputs before ordinary pairs are the lines'
 same-before : (s : Squeeze) (k : ℕ) (prior : ℤ) (a n : ℕ) → a + n < s .averages → prior ≡ before (lineOf s k) a
     → outputBefore (avgAt (inner s) k) (resAt (inner s) k) prior a n ≡ before (lineOf s k) (a + n)

@@ -4,12 +4,12 @@
 use mathlib.Core.Path.{_≡_}
 use mathlib.Core.Bool.{Bool}
 use mathlib.Core.List.{List}
-use Prim.Native.Nat.{ℕ, zero, suc, _+_, _*_, _<_}
+use Prim.Native.Nat.{ℕ, zero, suc, _+_, _<_}
 use lib.IntN.{ℤ, pos}
 use lib.ListN.{length, getD}
 use Rattle.pair.specs.Pair.{first, second}
-use Rattle.line.specs.Line.{nextAverage, sample}
-use Rattle.line.specs.Uncut.{Squeeze, place, lineOf, size}
+use Rattle.line.specs.Line.{nextAverage}
+use Rattle.line.specs.Uncut.{Squeeze, place, lineOf}
 use Rattle.line.specs.Forward.{lineIn}
 
 -- so many lines, their averages and residuals, and the slices that hold them
@@ -39,13 +39,6 @@ resAt t k i = lineIn (t .horizontal) (t .lines) (t .residuals) (t .res) k i
 -- where position j of line k lies in the output
 abbrev pub at : Lines → ℕ → ℕ → ℕ
 at t k j = place (t .horizontal) (t .lines) (t .averages + t .residuals) k j
-
--- pair i of every line, made with the next averages and the outputs before it that are given, and nothing else changed
-pub record OnePair (t : Lines) (following prior : ℕ → ℤ) (old new : List ℤ) (i : ℕ) : Type 0 where
-  pub long : length new ≡ length old
-  pub firsts : (k : ℕ) → k < t .lines → getD new (at t k (i + i)) (pos 0) ≡ first (avgAt t k i) (resAt t k i) (following k) (prior k)
-  pub seconds : (k : ℕ) → k < t .lines → getD new (at t k (i + i + 1)) (pos 0) ≡ second (avgAt t k i) (resAt t k i) (following k) (prior k)
-  pub kept : (q : ℕ) → ((k : ℕ) → k < t .lines → (q ≡ at t k (i + i) → ⊥) × (q ≡ at t k (i + i + 1) → ⊥)) → getD new q (pos 0) ≡ getD old q (pos 0)
 
 -- the output before the pair that stands n pairs after pair a, of which all are ordinary, with `prior` before pair a
 abbrev pub outputBefore : (ℕ → ℤ) → (ℕ → ℤ) → ℤ → ℕ → ℕ → ℤ
@@ -78,8 +71,3 @@ pub record Ended (s : Squeeze) (prior : ℕ → ℤ) (old new : List ℤ) (i : �
       → getD new (at (inner s) k (i + i + 1)) (pos 0) ≡ second (avgAt (inner s) k i) (resAt (inner s) k i) (nextAverage (lineOf s k) i) (prior k)
   pub tails : (k : ℕ) → k < s .lines → s .residuals < s .averages → getD new (at (inner s) k (i + i + 2)) (pos 0) ≡ avgAt (inner s) k (s .residuals)
   pub kept : (k j : ℕ) → k < s .lines → j < i + i → getD new (at (inner s) k j) (pos 0) ≡ getD old (at (inner s) k j) (pos 0)
-
--- the positions before j are written in every line
-pub record Upto (s : Squeeze) (out : List ℤ) (j : ℕ) : Type 0 where
-  pub long : length out ≡ s .lines * size s
-  pub done : (k i : ℕ) → k < s .lines → i < j → getD out (at (inner s) k i) (pos 0) ≡ sample (lineOf s k) i

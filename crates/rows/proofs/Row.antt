@@ -12,9 +12,9 @@ use lib.Seq.{getD-set-same, getD-set-other}
 use Rattle.pair.specs.Pair.{first, second}
 use Rattle.line.specs.Line.{orElse, nextAverage, before}
 use Rattle.line.specs.Uncut.{Squeeze, squeeze, outer, lineOf}
-use Rattle.line.specs.Pairs.{Lines, linesOf, inner, avgAt, resAt, at, OnePair, Ordinary, Ended}
+use Rattle.line.specs.Pairs.{Lines, linesOf, inner, avgAt, resAt, at, Ordinary, Ended}
 use Rattle.line.proofs.Lines.{before-first}
-use Rattle.line.proofs.Pairs.{one, following-same, next-chosen, ended-pair, ended-tail}
+use Rattle.line.proofs.Pairs.{OnePair, one, following-same, next-chosen, ended-pair, ended-tail}
 
 module _ (m n : ℕ) (avg res : List ℤ) where
   abbrev pub row : Lines

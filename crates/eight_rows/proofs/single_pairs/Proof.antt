@@ -1,6 +1,6 @@
 -- `single_pairs` meets its contract. The loop's invariant: the ordinary pairs up to i are made (`Ordinary` of the crate line). A turn adds one
 -- (`block-ordinary` of proofs/Blocks.antt). The measure is the pairs that are left. Assumes nothing.
-use mathlib.Core.Path.{_≡_, refl, _∙_}
+use mathlib.Core.Path.{_≡_, _∙_}
 use mathlib.Core.Bool.{true}
 use Prim.Native.Nat.{_+_, _-_, _<_, _≤_}
 use native.Mathlib.Omega.{arith}

@@ -1,7 +1,7 @@
 -- `unsqueeze_eight_rows` meets its contract: where sizes fit it is the uncut squeeze, else the output stays (proofs/Into.antt of the crate line).
 -- Assumes nothing.
 use mathlib.Core.Path.{_≡_, _∙_}
-use mathlib.Core.Bool.{true, false}
+use mathlib.Core.Bool.{true}
 use Prim.Native.Nat.{_+_, _*_}
 use native.Mathlib.Omega.{arith}
 use borrow.Author.Needs.{needs}

@@ -1,6 +1,6 @@
 -- `store_four` meets its contract: eight turns, each lane's samples inside where the last lane's are (proofs/Strides.antt), and past the lanes that
 -- are there (proofs/Fours.antt). Assumes nothing.
-use mathlib.Core.Path.{_≡_, refl, sym, _∙_}
+use mathlib.Core.Path.{_≡_, refl, _∙_}
 use Prim.Native.Nat.{_+_, _-_, _*_, _≤_, _<_}
 use native.Mathlib.Omega.{arith}
 use borrow.Author.Needs.{needs}

@@ -1,5 +1,5 @@
 -- `store_lanes` meets its contract: eight turns, each lane inside where the last one is (proofs/Strides.antt). Assumes nothing.
-use mathlib.Core.Path.{_≡_, refl, sym, _∙_}
+use mathlib.Core.Path.{_≡_, refl}
 use Prim.Native.Nat.{_+_, _-_, _*_, _≤_, _<_}
 use native.Mathlib.Omega.{arith}
 use native.Mathlib.Numerals.{add-one}
@@ -8,7 +8,7 @@ use lib.IntN.{pos}
 use lib.ListN.{length, getD, length-set}
 use Rattle.arith32.proofs.Whole.{back32}
 use Rattle.eight_rows.specs.Lanes.{withSome, withLanes}
-use Rattle.eight_rows.proofs.Strides.{some-length, lane-room}
+use Rattle.eight_rows.proofs.Strides.{lane-room}
 use Rattle.eight_rows.proofs.lanes.store_lanes.Statement.{statement}
 use Rattle.eight_rows.proofs.lanes.store_lanes.Tie as tie
 
