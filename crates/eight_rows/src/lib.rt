@@ -74,21 +74,21 @@ fn four_pairs(
     ensures { λ r. ⌜ ((res : List ℤ) → ((j : ℕ) → j < 4 → lanesAt (now (part .entry)) (q + j) 8 ≡ lanesAt res (p + j) n) → Ordinary (linesOf true 8 m n (now (avg .entry)) res) (lane prior) (lane r) (now (out .entry)) (now (out .exit)) p 4) ⌝ }
 {
     let size = m + n;
-    let second = load_lanes(avg, p + 1, m);
-    let third = load_lanes(avg, p + 2, m);
-    let fourth = load_lanes(avg, p + 3, m);
-    let a = block::unsqueeze_block(load_lanes(avg, p, m), load_lanes(part, q, 8), second, prior);
+    let avg1 = load_lanes(avg, p + 1, m);
+    let avg2 = load_lanes(avg, p + 2, m);
+    let avg3 = load_lanes(avg, p + 3, m);
+    let a = block::unsqueeze_block(load_lanes(avg, p, m), load_lanes(part, q, 8), avg1, prior);
     let a0 = a[0];
     let a1 = a[1];
-    let b = block::unsqueeze_block(second, load_lanes(part, q + 1, 8), third, a1);
+    let b = block::unsqueeze_block(avg1, load_lanes(part, q + 1, 8), avg2, a1);
     let b0 = b[0];
     let b1 = b[1];
     store_four(out, p + p, size, a0, a1, b0, b1);
-    let c = block::unsqueeze_block(third, load_lanes(part, q + 2, 8), fourth, b1);
+    let c = block::unsqueeze_block(avg2, load_lanes(part, q + 2, 8), avg3, b1);
     let c0 = c[0];
     let c1 = c[1];
     let d = block::unsqueeze_block(
-        fourth,
+        avg3,
         load_lanes(part, q + 3, 8),
         load_lanes(avg, p + 4, m),
         c1,
