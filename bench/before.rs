@@ -1,5 +1,6 @@
-//! Times tile calls of two archives in turn, in one run, after comparing the
-//! results: `before_tile` of an earlier commit, `squeeze_tile` of this tree.
+//! Times tile calls and whole runs of two archives in turn, in one run, after
+//! comparing the results: `before_*` of an earlier commit, `squeeze_*` of this
+//! tree.
 //!
 //! usage: before [SECONDS-PER-ROW]
 
@@ -11,8 +12,20 @@ type Tile = unsafe extern "C" fn(
     *mut i32, usize,
 ) -> u32;
 
+type Run = unsafe extern "C" fn(
+    *const u8, usize, *const i32, usize, *mut i32, usize, *mut i32, usize,
+) -> u32;
+
 #[link(name = "before", kind = "static")]
 extern "C" {
+    fn before_rebuild(
+        record: *const u8, record_len: usize, from: *const i32, from_len: usize,
+        to: *mut i32, to_len: usize, work: *mut i32, work_len: usize,
+    ) -> u32;
+    fn before_write(
+        record: *const u8, record_len: usize, from: *const i32, from_len: usize,
+        to: *mut i32, to_len: usize, work: *mut i32, work_len: usize,
+    ) -> u32;
     fn before_tile(
         horizontal: u32, aw: usize, ah: usize, rw: usize, rh: usize, ow: usize, oh: usize,
         avg: *const i32, avg_len: usize, res: *const i32, res_len: usize,
@@ -23,6 +36,14 @@ extern "C" {
 
 #[link(name = "squeeze", kind = "static")]
 extern "C" {
+    fn squeeze_rebuild(
+        record: *const u8, record_len: usize, from: *const i32, from_len: usize,
+        to: *mut i32, to_len: usize, work: *mut i32, work_len: usize,
+    ) -> u32;
+    fn squeeze_write(
+        record: *const u8, record_len: usize, from: *const i32, from_len: usize,
+        to: *mut i32, to_len: usize, work: *mut i32, work_len: usize,
+    ) -> u32;
     fn squeeze_tile(
         horizontal: u32, aw: usize, ah: usize, rw: usize, rh: usize, ow: usize, oh: usize,
         avg: *const i32, avg_len: usize, res: *const i32, res_len: usize,
@@ -81,28 +102,60 @@ impl Call {
 }
 
 /// Nanoseconds per sample of calls for a hundredth of a second, one at least.
-fn round(call: &Call, tile: Tile, out: &mut [i32]) -> f64 {
+fn round(samples: usize, call: &mut dyn FnMut()) -> f64 {
     let (start, mut runs) = (Instant::now(), 0);
     while runs == 0 || start.elapsed().as_secs_f64() < 0.01 {
-        call.run(tile, out);
+        call();
         runs += 1;
     }
-    start.elapsed().as_secs_f64() / (runs * out.len()) as f64 * 1e9
+    start.elapsed().as_secs_f64() / (runs * samples) as f64 * 1e9
 }
 
-/// The least of each over as many rounds as fit, the two in turn.
-fn both(seconds: f64, call: &Call) -> (f64, f64) {
-    let mut out = vec![0; call.w * call.h];
-    let mut other = vec![1; call.w * call.h];
+/// The least of each over as many rounds as fit, the two in turn; a line of the
+/// table.
+fn row(name: &str, seconds: f64, samples: usize, old: &mut dyn FnMut(), new: &mut dyn FnMut()) -> (f64, f64) {
+    let (mut before, mut after, start) = (f64::MAX, f64::MAX, Instant::now());
+    while start.elapsed().as_secs_f64() < seconds {
+        before = before.min(round(samples, old));
+        after = after.min(round(samples, new));
+    }
+    println!("{name:<28} {:>10.2} {before:>8.2} {after:>8.2}", after / before);
+    (before, after)
+}
+
+fn tiles(seconds: f64, horizontal: bool, w: usize, h: usize) -> (f64, f64) {
+    let call = Call::new(horizontal, w, h);
+    let (mut out, mut other) = (vec![0; w * h], vec![1; w * h]);
     call.run(before_tile, &mut out);
     call.run(squeeze_tile, &mut other);
     assert!(out == other, "the two archives differ");
-    let (mut before, mut after, start) = (f64::MAX, f64::MAX, Instant::now());
-    while start.elapsed().as_secs_f64() < seconds {
-        before = before.min(round(call, before_tile, &mut out));
-        after = after.min(round(call, squeeze_tile, &mut out));
-    }
-    (before, after)
+    let name = format!("{} {w} by {h}", if horizontal { "horizontal" } else { "vertical" });
+    row(&name, seconds, w * h, &mut || call.run(before_tile, &mut out), &mut || call.run(squeeze_tile, &mut other))
+}
+
+/// Rebuilding or writing one channel by the default plan.
+fn run(name: &str, seconds: f64, side: u16, old: Run, new: Run) {
+    let [low, high] = side.to_le_bytes();
+    let record = [1, 6, 0, low, high, low, high, 0, 0];
+    let n = side as usize * side as usize;
+    let from = samples(n, 7);
+    let (mut to, mut other, mut work) = (vec![0; n], vec![1; n], vec![0; n]);
+    let call = |function: Run, to: &mut Vec<i32>, work: &mut Vec<i32>| {
+        let answer = unsafe {
+            function(
+                record.as_ptr(), record.len(), from.as_ptr(), n, to.as_mut_ptr(), n, work.as_mut_ptr(), n,
+            )
+        };
+        assert_eq!(answer, 0);
+    };
+    call(old, &mut to, &mut work);
+    call(new, &mut other, &mut work);
+    assert!(to == other, "the two archives differ");
+    let mut second = work.clone();
+    row(
+        &format!("{name} {side} by {side}"), seconds, n,
+        &mut || call(old, &mut to, &mut work), &mut || call(new, &mut other, &mut second),
+    );
 }
 
 fn main() {
@@ -114,13 +167,15 @@ fn main() {
         (true, 4, 4096), (true, 2, 4096), (true, 1, 4096), (false, 4096, 4096), (false, 1024, 1024), (false, 256, 256),
         (false, 65535, 8), (false, 4096, 2), (false, 4096, 1), (false, 1, 65535),
     ] {
-        let (before, after) = both(seconds, &Call::new(horizontal, w, h));
-        let name = format!("{} {w} by {h}", if horizontal { "horizontal" } else { "vertical" });
-        println!("{name:<28} {:>10.2} {before:>8.2} {after:>8.2}", after / before);
+        let pair = tiles(seconds, horizontal, w, h);
         if (w, h) == (4096, 4096) {
-            large.push((before, after));
+            large.push(pair);
         }
     }
     let (along, down) = (large[0], large[1]);
     println!("{:<28} {:>10} {:>8.2} {:>8.2}", "horizontal / vertical, 4096", "", along.0 / down.0, along.1 / down.1);
+    for side in [64, 1024, 4096] {
+        run("rebuild", seconds, side, before_rebuild, squeeze_rebuild);
+        run("write", seconds, side, before_write, squeeze_write);
+    }
 }

@@ -1,5 +1,5 @@
 #!/usr/bin/env bash
-# Tile calls of this tree beside those of an earlier commit, in one run: the
+# Tile calls and whole runs of this tree beside those of an earlier commit, in one run: the
 # commit's archive is built in a folder of its own and its functions renamed.
 # usage: bench/before.sh COMMIT [SECONDS-PER-ROW]   (needs rustc and objcopy)
 set -eu
@@ -11,9 +11,9 @@ if [ ! -f "$old/libbefore.a" ]; then
     mkdir -p "$old/tree"
     git archive "$commit" | tar -x -C "$old/tree"
     (cd "$old/tree" && rt staticlib squeeze > /dev/null 2>&1)
-    objcopy --redefine-sym squeeze_tile=before_tile "$old/tree/target/staticlib/libsqueeze.a" "$old/libbefore.a"
-    for name in squeeze_rebuild squeeze_write squeeze_grid_rect squeeze_listing squeeze_record; do
-        objcopy --redefine-sym "$name=before_$name" "$old/libbefore.a"
+    cp "$old/tree/target/staticlib/libsqueeze.a" "$old/libbefore.a"
+    for name in tile rebuild write grid_rect listing record; do
+        objcopy --redefine-sym "squeeze_$name=before_$name" "$old/libbefore.a"
     done
 fi
 rt staticlib squeeze > /dev/null 2>&1

@@ -13,7 +13,7 @@ use Rattle.line.specs.Uncut.{lineAt, positionAt}
 use Rattle.line.specs.Forward as F
 use Rattle.line.specs.Forward.{averageCount, residualCount, averageAt, nextAt, prevAt, residualAt, lineIn}
 use Rattle.line.proofs.Places.{row-of, rest-of}
-use Rattle.forward.specs.Rows.{wide, high, averageEntry, residualEntry}
+use Rattle.forward.specs.Rows.{wide, averageEntry, residualEntry}
 
 -- ---- along a line
 module _ (x : ℕ → ℤ) (size i : ℕ) where
@@ -56,14 +56,6 @@ line-of-row false lines m y x l = rest-of y lines x l
 pub position-of-row : (h : Bool) (lines m y x : ℕ) → x < wide h lines m → positionAt h lines m (y * wide h lines m + x) ≡ cond h x y
 position-of-row true lines m y x l = rest-of y m x l
 position-of-row false lines m y x l = row-of y lines x l
-
-pub line-inside : (h : Bool) (lines m y x : ℕ) → y < high h lines m → x < wide h lines m → cond h y x < lines
-line-inside true lines m y x p q = p
-line-inside false lines m y x p q = q
-
-pub position-inside : (h : Bool) (lines m y x : ℕ) → y < high h lines m → x < wide h lines m → cond h x y < m
-position-inside true lines m y x p q = q
-position-inside false lines m y x p q = p
 
 module _ (h : Bool) (lines size : ℕ) (xs : List ℤ) (y x : ℕ) where
   pub average-entry : x < wide h lines (averageCount size)

@@ -2,12 +2,12 @@
 -- Assumes nothing.
 use mathlib.Core.Path.{_≡_, refl, sym, _∙_}
 use mathlib.Core.Bool.{Bool, true, false}
-use mathlib.Core.List.{List, [], _∷_, _++_, append-assoc}
-use Prim.Native.Nat.{ℕ, suc, _+_, _*_, _<_, _≤_}
+use mathlib.Core.List.{List, _++_, append-assoc}
+use Prim.Native.Nat.{ℕ, _+_, _*_, _<_, _≤_}
 use native.Mathlib.Numerals.{add-one}
 use native.Mathlib.Omega.{arith}
 use native.Mathlib.Nat.{mul-le-mul-right, mul-comm, add-mul}
-use lib.IntN.{ℤ, pos}
+use lib.IntN.{ℤ}
 use lib.ListN.{length, set, take, drop, length-set, length-append, length-drop}
 use lib.Seq.{take-suc-set, take-at, take-all, length-take-le}
 use Rattle.line.specs.Uncut.{table}
@@ -75,9 +75,9 @@ module _ (f : ℕ → ℤ) (h w : ℕ) (out : List ℤ) where
       rw s (row-part f 0 (h * w) out (y * w) w part (row-room y h w l) (rw z e) r)
 
   -- the first, where the part begins at 0
-  pub rows-first : (part : List ℤ) → 0 < h → length out ≡ h * w → part ≡ table f (0 * w) w
+  pub rows-first : (part : List ℤ) → 0 < h → length out ≡ h * w → part ≡ table f 0 w
       → Row f 0 (h * w) (take 0 out ++ (part ++ drop w (drop 0 out))) (1 * w)
-  rows-first part l e p = let z : 0 * w ≡ 0 = omega arith in rw z at (rows-more 0 part l p (rows-none e))
+  rows-first part l e p = let z : 0 * w ≡ 0 = omega arith in rw z at (rows-more 0 part l (rw z p) (rows-none e))
 
   pub rows-all : (y : ℕ) → h ≤ y → Row f 0 (h * w) out (y * w) → out ≡ table f 0 (h * w)
   rows-all y l r = row-all f 0 (h * w) out (y * w) (mul-le-mul-right w l) r

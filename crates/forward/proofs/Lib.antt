@@ -1,4 +1,6 @@
 pub mod Entries
 pub mod Filled
 pub mod Fitted
+pub mod Nexts
 pub mod Stretches
+pub mod Across

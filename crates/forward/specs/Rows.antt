@@ -2,9 +2,11 @@
 -- crate line, entry by entry). Definitions only.
 use mathlib.Core.Bool.{Bool, cond}
 use mathlib.Core.List.{List}
-use Prim.Native.Nat.{ℕ, _*_, _<_}
+use Prim.Native.Nat.{ℕ, _+_, _*_, _<_}
+use lib.Dec.{ltb}
 use lib.IntN.{ℤ, pos}
 use lib.ListN.{length, getD}
+use Rattle.arith32.specs.Arith.{Sample}
 use Rattle.pair.specs.Pair.{average, residual}
 use Rattle.line.specs.Uncut.{lineAt, positionAt}
 use Rattle.line.specs.Forward.{averageCount, residualCount, averageAt, residualAt, lineIn}
@@ -31,8 +33,13 @@ residualEntry horizontal lines size xs j =
 abbrev pub Reach : ℕ → ℕ → List ℤ → Type 0
 Reach n step xs = (x : ℕ) → x < n → x * step < length xs
 
+-- the slice's sample for entry x
 abbrev pub sampleOver : List ℤ → ℕ → ℕ → ℤ
 sampleOver xs step x = getD xs (x * step) (pos 0)
+
+-- n of them are 32-bit samples, which is known once they are read
+abbrev pub Read : ℕ → ℕ → List ℤ → Type 0
+Read n step xs = (x : ℕ) → x < n → Sample (sampleOver xs step x)
 
 unfoldable pub averageOver : List ℤ → List ℤ → ℕ → ℕ → ℤ
 averageOver first second step x = average (sampleOver first step x) (sampleOver second step x)
@@ -42,3 +49,16 @@ unfoldable pub residualOver : List ℤ → List ℤ → List ℤ → List ℤ �
 residualOver before first second third fourth step x =
     residual (sampleOver first step x) (sampleOver second step x) (average (sampleOver third step x) (sampleOver fourth step x))
     (sampleOver before step x)
+
+-- the same where the pair's own average stands before it
+unfoldable pub firstOver : List ℤ → List ℤ → List ℤ → List ℤ → ℕ → ℕ → ℤ
+firstOver first second third fourth step x =
+    residual (sampleOver first step x) (sampleOver second step x) (average (sampleOver third step x) (sampleOver fourth step x))
+    (average (sampleOver first step x) (sampleOver second step x))
+
+-- ---- two positions of a line whose average is the one after pair i: the pair or the tail after it, else pair i itself; a tail with itself
+unfoldable pub nextFirst : ℕ → ℕ → ℕ
+nextFirst size i = cond (ltb (i + i + 2) size) (i + i + 2) (i + i)
+
+unfoldable pub nextSecond : ℕ → ℕ → ℕ
+nextSecond size first = cond (ltb (first + 1) size) (first + 1) first

@@ -3,13 +3,13 @@
 // is written row by row, and a row is read along the rows of the samples that
 // its entries are made of, in either direction.
 ghost use mathlib.Core.Path.{_≡_};
-ghost use mathlib.Core.Bool.{true, false, cond};
+ghost use mathlib.Core.Bool.{true, false};
 ghost use Prim.Native.Nat.{_+_, _*_, _<_, _≤_};
 ghost use lib.ListN.{length, drop};
 ghost use Rattle.line.specs.Uncut.{place, table};
 ghost use Rattle.line.specs.Forward.{averageCount, residualCount, averageAt, nextAt, prevAt, residualAt, lineIn, averagesOf, residualsOf};
 ghost use Rattle.forward.specs.Into.{slicesFit, averagesInto, residualsInto};
-ghost use Rattle.forward.specs.Rows.{wide, high, averageEntry, residualEntry, Reach, averageOver, residualOver};
+ghost use Rattle.forward.specs.Rows.{averageEntry, residualEntry, Reach, Read, averageOver, residualOver, firstOver, nextFirst, nextSecond};
 use numbers::MAX_SIDE;
 
 fn slices_fit(lines: usize, size: usize, count: usize, xs: &[i32], out: &[i32]) -> bool
@@ -25,130 +25,67 @@ fn slices_fit(lines: usize, size: usize, count: usize, xs: &[i32], out: &[i32]) 
     (xs.len() == lines * size) & (out.len() == lines * count)
 }
 
-fn select(horizontal: bool, a: usize, b: usize) -> usize
-    ensures { λ r. ⌜ r ≡ cond horizontal a b ⌝ }
-{
-    if horizontal { a } else { b }
-}
-
-// Sample i of line k.
-fn sample_at(horizontal: bool, lines: usize, size: usize, xs: &[i32], k: usize, i: usize) -> i32
+// Sample i of line k of a horizontal squeeze, and what else stands at a single
+// place of the line, by the rule with its cases at the line's ends.
+fn sample_at(lines: usize, size: usize, xs: &[i32], k: usize, i: usize) -> i32
     requires { ⌜ (length (now xs) ≡ lines * size) × (k < lines) × (i < size) ⌝ }
-    ensures { λ r. ⌜ r ≡ lineIn horizontal lines size (now (xs .entry)) k i ⌝ }
+    ensures { λ r. ⌜ r ≡ lineIn true lines size (now (xs .entry)) k i ⌝ }
 {
-    if horizontal {
-        xs[k * size + i]
-    } else {
-        xs[i * lines + k]
-    }
+    xs[k * size + i]
 }
 
-fn average_at(horizontal: bool, lines: usize, size: usize, xs: &[i32], k: usize, i: usize) -> i32
+fn average_at(lines: usize, size: usize, xs: &[i32], k: usize, i: usize) -> i32
     requires { ⌜ (length (now xs) ≡ lines * size) × (k < lines) × (i + i < size) ⌝ }
-    ensures { λ r. ⌜ r ≡ averageAt (lineIn horizontal lines size (now (xs .entry)) k) size i ⌝ }
+    ensures { λ r. ⌜ r ≡ averageAt (lineIn true lines size (now (xs .entry)) k) size i ⌝ }
 {
-    let first = sample_at(horizontal, lines, size, xs, k, i + i);
+    let first = sample_at(lines, size, xs, k, i + i);
     if size - (i + i) < 2 {
         return first;
     }
-    let pair = pair::squeeze(first, sample_at(horizontal, lines, size, xs, k, i + i + 1));
+    let pair = pair::squeeze(first, sample_at(lines, size, xs, k, i + i + 1));
     pair.average
 }
 
 // The average after that of pair i, which is given.
-fn next_at(
-    horizontal: bool,
-    lines: usize,
-    size: usize,
-    xs: &[i32],
-    k: usize,
-    i: usize,
-    own: i32,
-) -> i32
-    requires { ⌜ (length (now xs) ≡ lines * size) × (k < lines) × (i + i + 1 < size) × (own ≡ averageAt (lineIn horizontal lines size (now xs) k) size i) ⌝ }
-    ensures { λ r. ⌜ r ≡ nextAt (lineIn horizontal lines size (now (xs .entry)) k) size i ⌝ }
+fn next_at(lines: usize, size: usize, xs: &[i32], k: usize, i: usize, own: i32) -> i32
+    requires { ⌜ (length (now xs) ≡ lines * size) × (k < lines) × (i + i + 1 < size) × (own ≡ averageAt (lineIn true lines size (now xs) k) size i) ⌝ }
+    ensures { λ r. ⌜ r ≡ nextAt (lineIn true lines size (now (xs .entry)) k) size i ⌝ }
 {
     if i + i + 2 < size {
-        average_at(horizontal, lines, size, xs, k, i + 1)
+        average_at(lines, size, xs, k, i + 1)
     } else {
         own
     }
 }
 
 // The sample before pair i, whose average is given.
-fn prev_at(
-    horizontal: bool,
-    lines: usize,
-    size: usize,
-    xs: &[i32],
-    k: usize,
-    i: usize,
-    own: i32,
-) -> i32
-    requires { ⌜ (length (now xs) ≡ lines * size) × (k < lines) × (i + i + 1 < size) × (own ≡ averageAt (lineIn horizontal lines size (now xs) k) size i) ⌝ }
-    ensures { λ r. ⌜ r ≡ prevAt (lineIn horizontal lines size (now (xs .entry)) k) size i ⌝ }
+fn prev_at(lines: usize, size: usize, xs: &[i32], k: usize, i: usize, own: i32) -> i32
+    requires { ⌜ (length (now xs) ≡ lines * size) × (k < lines) × (i + i + 1 < size) × (own ≡ averageAt (lineIn true lines size (now xs) k) size i) ⌝ }
+    ensures { λ r. ⌜ r ≡ prevAt (lineIn true lines size (now (xs .entry)) k) size i ⌝ }
 {
     if i == 0 {
         own
     } else {
-        sample_at(horizontal, lines, size, xs, k, i + i - 1)
+        sample_at(lines, size, xs, k, i + i - 1)
     }
 }
 
-fn residual_at(horizontal: bool, lines: usize, size: usize, xs: &[i32], k: usize, i: usize) -> i32
+fn residual_at(lines: usize, size: usize, xs: &[i32], k: usize, i: usize) -> i32
     requires { ⌜ (length (now xs) ≡ lines * size) × (k < lines) × (i + i + 1 < size) ⌝ }
-    ensures { λ r. ⌜ r ≡ residualAt (lineIn horizontal lines size (now (xs .entry)) k) size i ⌝ }
+    ensures { λ r. ⌜ r ≡ residualAt (lineIn true lines size (now (xs .entry)) k) size i ⌝ }
 {
     let pair = pair::squeeze(
-        sample_at(horizontal, lines, size, xs, k, i + i),
-        sample_at(horizontal, lines, size, xs, k, i + i + 1),
+        sample_at(lines, size, xs, k, i + i),
+        sample_at(lines, size, xs, k, i + i + 1),
     );
     let own = pair.average;
     let difference = pair.difference;
     pair::residual(
         difference,
         own,
-        next_at(horizontal, lines, size, xs, k, i, own),
-        prev_at(horizontal, lines, size, xs, k, i, own),
+        next_at(lines, size, xs, k, i, own),
+        prev_at(lines, size, xs, k, i, own),
     )
-}
-
-// Row y of the averages, entry by entry: of line y, or of all lines at
-// position y.
-fn average_singly(
-    horizontal: bool,
-    lines: usize,
-    size: usize,
-    xs: &[i32],
-    y: usize,
-    out: &mut [i32],
-)
-    requires { ⌜ (length (now xs) ≡ lines * size) × (y < high horizontal lines (averageCount size)) × (length (now out) ≡ wide horizontal lines (averageCount size)) ⌝ }
-    ensures { λ _. ⌜ now (out .exit) ≡ table (averageEntry horizontal lines size (now (xs .entry))) (y * wide horizontal lines (averageCount size)) (wide horizontal lines (averageCount size)) ⌝ }
-{
-    for x in 0..out.len() {
-        let k = select(horizontal, y, x);
-        let i = select(horizontal, x, y);
-        out[x] = average_at(horizontal, lines, size, xs, k, i);
-    }
-}
-
-fn residual_singly(
-    horizontal: bool,
-    lines: usize,
-    size: usize,
-    xs: &[i32],
-    y: usize,
-    out: &mut [i32],
-)
-    requires { ⌜ (length (now xs) ≡ lines * size) × (y < high horizontal lines (residualCount size)) × (length (now out) ≡ wide horizontal lines (residualCount size)) ⌝ }
-    ensures { λ _. ⌜ now (out .exit) ≡ table (residualEntry horizontal lines size (now (xs .entry))) (y * wide horizontal lines (residualCount size)) (wide horizontal lines (residualCount size)) ⌝ }
-{
-    for x in 0..out.len() {
-        let k = select(horizontal, y, x);
-        let i = select(horizontal, x, y);
-        out[x] = residual_at(horizontal, lines, size, xs, k, i);
-    }
 }
 
 // The samples from sample i of line k on.
@@ -187,8 +124,10 @@ fn average_stretch(first: &[i32], second: &[i32], step: usize, out: &mut [i32])
     }
 }
 
-// The same where a pair stands before each pair and one after it: `before` has
-// the sample before it, `third` and `fourth` the pair after it.
+// The same where a pair stands before each pair: `before` has the sample before
+// it, `third` and `fourth` the pair after it or what stands for that. Only what
+// was read is known to be 32-bit samples, hence the second fact of the contract,
+// which a caller needs that has a sample twice stand for a pair.
 fn residual_stretch(
     before: &[i32],
     first: &[i32],
@@ -199,7 +138,7 @@ fn residual_stretch(
     out: &mut [i32],
 )
     requires { ⌜ Reach (length (now out)) step (now before) × Reach (length (now out)) step (now first) × Reach (length (now out)) step (now second) × Reach (length (now out)) step (now third) × Reach (length (now out)) step (now fourth) ⌝ }
-    ensures { λ _. ⌜ now (out .exit) ≡ table (residualOver (now (before .entry)) (now (first .entry)) (now (second .entry)) (now (third .entry)) (now (fourth .entry)) step) 0 (length (now (out .entry))) ⌝ }
+    ensures { λ _. ⌜ (now (out .exit) ≡ table (residualOver (now (before .entry)) (now (first .entry)) (now (second .entry)) (now (third .entry)) (now (fourth .entry)) step) 0 (length (now (out .entry)))) × Read (length (now (out .entry))) step (now (third .entry)) ⌝ }
 {
     for x in 0..out.len() {
         let i = x * step;
@@ -212,16 +151,39 @@ fn residual_stretch(
     }
 }
 
-// The averages of line y of a horizontal squeeze, its tail last.
+// The same for pairs that begin their lines: the own average stands before them.
+fn first_stretch(
+    first: &[i32],
+    second: &[i32],
+    third: &[i32],
+    fourth: &[i32],
+    step: usize,
+    out: &mut [i32],
+)
+    requires { ⌜ Reach (length (now out)) step (now first) × Reach (length (now out)) step (now second) × Reach (length (now out)) step (now third) × Reach (length (now out)) step (now fourth) ⌝ }
+    ensures { λ _. ⌜ (now (out .exit) ≡ table (firstOver (now (first .entry)) (now (second .entry)) (now (third .entry)) (now (fourth .entry)) step) 0 (length (now (out .entry)))) × Read (length (now (out .entry))) step (now (third .entry)) ⌝ }
+{
+    for x in 0..out.len() {
+        let i = x * step;
+        let own = pair::squeeze(first[i], second[i]);
+        let next = pair::squeeze(third[i], fourth[i]);
+        let difference = own.difference;
+        let average = own.average;
+        let after = next.average;
+        out[x] = pair::residual_lane(difference, average, after, average);
+    }
+}
+
+// The averages of line y of a horizontal squeeze, its tail last. An empty line
+// has no second place for a slice to begin at.
 fn average_line(lines: usize, size: usize, xs: &[i32], y: usize, out: &mut [i32])
     requires { ⌜ (length (now xs) ≡ lines * size) × (y < lines) × (length (now out) ≡ averageCount size) ⌝ }
     ensures { λ _. ⌜ now (out .exit) ≡ table (averageEntry true lines size (now (xs .entry))) (y * averageCount size) (averageCount size) ⌝ }
 {
-    let n = size / 2;
-    if n == 0 {
-        average_singly(true, lines, size, xs, y, out);
+    if size == 0 {
         return;
     }
+    let n = size / 2;
     average_stretch(
         samples_from(true, lines, size, xs, y, 0),
         samples_from(true, lines, size, xs, y, 1),
@@ -229,7 +191,7 @@ fn average_line(lines: usize, size: usize, xs: &[i32], y: usize, out: &mut [i32]
         &mut out[0..n],
     );
     if n < out.len() {
-        out[n] = average_at(true, lines, size, xs, y, n);
+        out[n] = average_at(lines, size, xs, y, n);
     }
 }
 
@@ -239,21 +201,25 @@ fn residual_line(lines: usize, size: usize, xs: &[i32], y: usize, out: &mut [i32
     ensures { λ _. ⌜ now (out .exit) ≡ table (residualEntry true lines size (now (xs .entry))) (y * residualCount size) (residualCount size) ⌝ }
 {
     let n = out.len();
-    if n < 3 {
-        residual_singly(true, lines, size, xs, y, out);
+    if n == 0 {
         return;
     }
-    out[0] = residual_at(true, lines, size, xs, y, 0);
-    residual_stretch(
-        samples_from(true, lines, size, xs, y, 1),
-        samples_from(true, lines, size, xs, y, 2),
-        samples_from(true, lines, size, xs, y, 3),
-        samples_from(true, lines, size, xs, y, 4),
-        samples_from(true, lines, size, xs, y, 5),
-        2,
-        &mut out[1..n - 1],
-    );
-    out[n - 1] = residual_at(true, lines, size, xs, y, n - 1);
+    out[0] = residual_at(lines, size, xs, y, 0);
+    if n == 1 {
+        return;
+    }
+    if 2 < n {
+        residual_stretch(
+            samples_from(true, lines, size, xs, y, 1),
+            samples_from(true, lines, size, xs, y, 2),
+            samples_from(true, lines, size, xs, y, 3),
+            samples_from(true, lines, size, xs, y, 4),
+            samples_from(true, lines, size, xs, y, 5),
+            2,
+            &mut out[1..n - 1],
+        );
+    }
+    out[n - 1] = residual_at(lines, size, xs, y, n - 1);
 }
 
 // The averages of pair y of all lines of a vertical squeeze.
@@ -280,6 +246,60 @@ fn residual_pairs(lines: usize, size: usize, xs: &[i32], y: usize, out: &mut [i3
         samples_from(false, lines, size, xs, 0, y + y + 1),
         samples_from(false, lines, size, xs, 0, y + y + 2),
         samples_from(false, lines, size, xs, 0, y + y + 3),
+        1,
+        out,
+    );
+}
+
+// What stands for the pair after pair i: that pair, or the tail twice, since the
+// average of a sample with itself is that sample, or pair i itself where the line
+// ends with it. So a row at the lines' ends is a stretch too, and its loop asks
+// nothing. This is the place of the first sample.
+fn next_first(size: usize, i: usize) -> usize
+    requires { ⌜ i + i + 1 < size ⌝ }
+    ensures { λ r. ⌜ r ≡ nextFirst size i ⌝ }
+{
+    if i + i + 2 < size { i + i + 2 } else { i + i }
+}
+
+// The place of the second.
+fn next_second(size: usize, first: usize) -> usize
+    requires { ⌜ first < size ⌝ }
+    ensures { λ r. ⌜ r ≡ nextSecond size first ⌝ }
+{
+    if first + 1 < size { first + 1 } else { first }
+}
+
+// The residuals of the first pair of all lines.
+fn first_pairs(lines: usize, size: usize, xs: &[i32], out: &mut [i32])
+    requires { ⌜ (length (now xs) ≡ lines * size) × (1 < size) × (length (now out) ≡ lines) ⌝ }
+    ensures { λ _. ⌜ now (out .exit) ≡ table (residualEntry false lines size (now (xs .entry))) 0 lines ⌝ }
+{
+    let third = next_first(size, 0);
+    let fourth = next_second(size, third);
+    first_stretch(
+        samples_from(false, lines, size, xs, 0, 0),
+        samples_from(false, lines, size, xs, 0, 1),
+        samples_from(false, lines, size, xs, 0, third),
+        samples_from(false, lines, size, xs, 0, fourth),
+        1,
+        out,
+    );
+}
+
+// Those of pair `last`, which is not the first.
+fn last_pairs(lines: usize, size: usize, xs: &[i32], last: usize, out: &mut [i32])
+    requires { ⌜ (length (now xs) ≡ lines * size) × (0 < last) × (last + last + 1 < size) × (length (now out) ≡ lines) ⌝ }
+    ensures { λ _. ⌜ now (out .exit) ≡ table (residualEntry false lines size (now (xs .entry))) (last * lines) lines ⌝ }
+{
+    let third = next_first(size, last);
+    let fourth = next_second(size, third);
+    residual_stretch(
+        samples_from(false, lines, size, xs, 0, last + last - 1),
+        samples_from(false, lines, size, xs, 0, last + last),
+        samples_from(false, lines, size, xs, 0, last + last + 1),
+        samples_from(false, lines, size, xs, 0, third),
+        samples_from(false, lines, size, xs, 0, fourth),
         1,
         out,
     );
@@ -318,12 +338,8 @@ fn averages_across(lines: usize, size: usize, xs: &[i32], out: &mut [i32])
         average_pairs(lines, size, xs, y, &mut out[y * lines..y * lines + lines]);
     }
     if n + n < size {
-        average_singly(
-            false,
-            lines,
-            size,
-            xs,
-            n,
+        buffer::copy(
+            samples_from(false, lines, size, xs, 0, n + n),
             &mut out[n * lines..n * lines + lines],
         );
     }
@@ -339,7 +355,7 @@ fn residuals_across(lines: usize, size: usize, xs: &[i32], out: &mut [i32])
     if n == 0 {
         return;
     }
-    residual_singly(false, lines, size, xs, 0, &mut out[0..lines]);
+    first_pairs(lines, size, xs, &mut out[0..lines]);
     if n == 1 {
         return;
     }
@@ -347,8 +363,7 @@ fn residuals_across(lines: usize, size: usize, xs: &[i32], out: &mut [i32])
     for y in 1..last {
         residual_pairs(lines, size, xs, y, &mut out[y * lines..y * lines + lines]);
     }
-    residual_singly(
-        false,
+    last_pairs(
         lines,
         size,
         xs,

@@ -1,5 +1,6 @@
 -- `average_at` meets its contract: the last sample alone, or the average of a pair. Assumes nothing.
 use mathlib.Core.Path.{_∙_, sym}
+use mathlib.Core.Bool.{true}
 use native.Mathlib.Omega.{arith}
 use borrow.Author.Needs.{needs}
 use Rattle.line.specs.Forward.{lineIn}
@@ -25,7 +26,7 @@ returns c =
     let first = c .before .sample-at in
     let a = c .before .before .args in
     back32 (first .result) (first .ok) ∙ first .ensures
-    ∙ sym (average-tail (lineIn (a .horizontal) (a .lines) (a .size) (a .xs .now) (a .k)) (a .size) (a .i) (omega arith))
+    ∙ sym (average-tail (lineIn true (a .lines) (a .size) (a .xs .now) (a .k)) (a .size) (a .i) (omega arith))
 
 add-sample-at-2 : tie.Need-add-sample-at-2
 add-sample-at-2 c = search needs
@@ -49,7 +50,7 @@ returns-2 c =
     let b1 = back32 (first .result) (first .ok) ∙ first .ensures in
     let b2 = back32 (second .result) (second .ok) ∙ second .ensures in
     back32 (pair .result .average) (c .struct-told .given .0 .1) ∙ rw (b1, b2) at (pair .ensures .0)
-    ∙ sym (average-pair (lineIn (a .horizontal) (a .lines) (a .size) (a .xs .now) (a .k)) (a .size) (a .i) (omega arith))
+    ∙ sym (average-pair (lineIn true (a .lines) (a .size) (a .xs .now) (a .k)) (a .size) (a .i) (omega arith))
 
 pub average-at-spec : {M : Type 1} → statement M
 average-at-spec =

@@ -15,7 +15,7 @@ use Rattle.line.specs.Forward.{averageCount}
 use Rattle.arith32.proofs.Whole.{back32}
 use Rattle.forward.specs.Rows.{averageEntry, averageOver}
 use Rattle.forward.proofs.Entries.{average-entry}
-use Rattle.forward.proofs.Filled.{Row, row-more, row-all, below}
+use Rattle.forward.proofs.Filled.{Row, row-none, row-more, row-all, below}
 use Rattle.forward.proofs.Stretches.{line-room, reach-along, line-averages}
 use Rattle.forward.proofs.average_line.Statement.{statement}
 use Rattle.forward.proofs.average_line.Tie as tie
@@ -46,14 +46,12 @@ front c part h =
     (line-averages (a .lines) (a .size) (a .xs .now) (a .y) (a .out .now) part (start .pre .2)
     (rw (first .samples-from .ensures, second .samples-from2 .ensures, lent second) at h))
 
-average-singly-requires : tie.Need-average-singly-requires
-average-singly-requires c κs = search needs
-
-same-length : tie.Need-same-length
-same-length c = search needs
-
 returns : tie.Need-returns
-returns c = search needs
+returns c =
+    let a = c .before .args in
+    let m = averageCount (a .size) in
+    let f = averageEntry true (a .lines) (a .size) (a .xs .now) in
+    row-all f (a .y * m) m (a .out .now) 0 (omega (arith, c .if1 .taken)) (row-none f (a .y * m) m (a .out .now) (c .before .pre .2))
 
 samples-from-requires : tie.Need-samples-from-requires
 samples-from-requires c κs =
@@ -89,14 +87,14 @@ average-stretch-requires c κs =
 average-at-requires : tie.Need-average-at-requires
 average-at-requires c κs = search needs
 
-mul-t19 : tie.Need-mul-t19
-mul-t19 c = search needs
+mul-t16 : tie.Need-mul-t16
+mul-t16 c = search needs
 
 slice-set-from-out : tie.Need-slice-set-from-out
 slice-set-from-out c = search needs
 
-same-length-2 : tie.Need-same-length-2
-same-length-2 c = search needs
+same-length : tie.Need-same-length
+same-length c = search needs
 
 returns-2 : tie.Need-returns-2
 returns-2 c =
@@ -112,8 +110,8 @@ returns-2 c =
     (row-more f (a .y * m) m _ n _ l
     (back32 (tail .result) (tail .ok) ∙ tail .ensures ∙ average-entry true (a .lines) (a .size) (a .xs .now) (a .y) n l) r)
 
-same-length-3 : tie.Need-same-length-3
-same-length-3 c = search needs
+same-length-2 : tie.Need-same-length-2
+same-length-2 c = search needs
 
 returns-3 : tie.Need-returns-3
 returns-3 c =
@@ -126,8 +124,6 @@ pub average-line-spec : {M : Type 1} → statement M
 average-line-spec =
     tie.close
     (tie.spec
-    average-singly-requires
-    same-length
     returns
     samples-from-requires
     samples-from-requires-2
@@ -136,9 +132,9 @@ average-line-spec =
     part-average-stretch-end
     average-stretch-requires
     average-at-requires
-    mul-t19
+    mul-t16
     slice-set-from-out
-    same-length-2
+    same-length
     returns-2
-    same-length-3
+    same-length-2
     returns-3)

@@ -1,9 +1,8 @@
--- `average_pairs` meets its contract: a stretch across all lines (proofs/Stretches.antt). Assumes nothing.
+-- `average_pairs` meets its contract: a stretch across all lines (proofs/Across.antt). Assumes nothing.
 use mathlib.Core.Path.{_∙_}
-use Prim.Native.Nat.{_+_}
 use native.Mathlib.Omega.{arith}
 use borrow.Author.Needs.{needs}
-use Rattle.forward.proofs.Stretches.{row-begins, reach-across, row-averages}
+use Rattle.forward.proofs.Across.{row-begins, reach-across, row-averages}
 use Rattle.forward.proofs.average_pairs.Statement.{statement}
 use Rattle.forward.proofs.average_pairs.Tie as tie
 

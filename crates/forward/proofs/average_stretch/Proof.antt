@@ -1,5 +1,5 @@
 -- `average_stretch` meets its contract. The loop's invariant: the entries up to x are made (`Row` of proofs/Filled.antt). Assumes nothing.
-use mathlib.Core.Path.{_≡_, refl, sym, _∙_}
+use mathlib.Core.Path.{_≡_, refl, _∙_}
 use Prim.Native.Nat.{_+_, _-_, _*_, _<_}
 use native.Mathlib.Omega.{arith}
 use borrow.Author.Needs.{needs}

@@ -7,13 +7,16 @@ use Prim.Native.Nat.{_+_, _-_, _*_, _/_, _<_, _≤_}
 use native.Mathlib.Omega.{arith}
 use native.Mathlib.Nat.{mul-comm}
 use borrow.Author.Needs.{needs}
+use denote.Ref.{now}
 use lib.IntN.{ℤ}
 use lib.ListN.{length, take, drop}
 use Rattle.line.specs.Uncut.{table}
 use Rattle.line.specs.Forward.{averageCount}
+use Rattle.buffer.specs.Buffer.{copied}
 use Rattle.forward.specs.Rows.{averageEntry}
 use Rattle.forward.proofs.Filled.{Row, rows-none, rows-more, rows-all, row-room, part-length}
 use Rattle.forward.proofs.Fitted.{averages-rows}
+use Rattle.forward.proofs.Across.{row-begins, row-tails}
 use Rattle.forward.proofs.averages_across.Statement.{statement}
 use Rattle.forward.proofs.averages_across.Tie as tie
 
@@ -64,6 +67,27 @@ tailed c part h =
     rw z
     (rows-more (averageEntry false w (a .size) (a .xs .now)) (averageCount (a .size)) w (loop .loop .out) n part (omega (arith, c .if1 .taken)) h
     (rw e at (loop .loop .inv .1)))
+
+-- what was left of it are the tails
+tails : (c : tie.After-copy Inv-loop μ-loop)
+    → let from = c .before .before in
+    let then = from .before in
+    let a = then .before .before .before .args in
+    let w = a .lines in
+    let n = a .size / 2 in
+    copied (now (from .samples-from .result)) (take (n * w + w - n * w) (drop (n * w) (then .before .before .loop .out)))
+    ≡ table (averageEntry false w (a .size) (a .xs .now)) (n * w) w
+tails c =
+    let from = c .before .before in
+    let then = from .before in
+    let start = then .before .before .before in
+    let a = start .args in
+    let w = a .lines in
+    let n = a .size / 2 in
+    let z : n * w + w - n * w ≡ w = omega arith in
+    rw (from .samples-from .ensures, z)
+    (row-tails w (a .size) (a .xs .now) n _ (start .pre .0) (omega (arith, then .if1 .taken))
+    (part-length (n * w) w (then .before .before .loop .out) (tail-room then)))
 
 loop-holds : tie.Need-loop-holds Inv-loop μ-loop
 loop-holds c =
@@ -124,48 +148,50 @@ loop-again c =
 add-if1 : tie.Need-add-if1 Inv-loop μ-loop
 add-if1 c = search needs
 
-mul-average-singly : tie.Need-mul-average-singly Inv-loop μ-loop
-mul-average-singly c = omega (arith, tail-room c, kept (c .before .before))
+add-samples-from : tie.Need-add-samples-from Inv-loop μ-loop
+add-samples-from c = search needs
 
-mul-average-singly-2 : tie.Need-mul-average-singly-2 Inv-loop μ-loop
-mul-average-singly-2 c = omega (arith, tail-room c, kept (c .before .before))
-
-add-average-singly : tie.Need-add-average-singly Inv-loop μ-loop
-add-average-singly c = omega (arith, tail-room c, kept (c .before .before))
-
-mul-average-singly-3 : tie.Need-mul-average-singly-3 Inv-loop μ-loop
-mul-average-singly-3 c = omega (arith, tail-room c, kept (c .before .before))
-
-sub-average-singly : tie.Need-sub-average-singly Inv-loop μ-loop
-sub-average-singly c = omega (arith, tail-room c, kept (c .before .before))
-
-part-average-singly-start : tie.Need-part-average-singly-start Inv-loop μ-loop
-part-average-singly-start c = omega (arith, tail-room c, kept (c .before .before))
-
-part-average-singly-end : tie.Need-part-average-singly-end Inv-loop μ-loop
-part-average-singly-end c = omega (arith, tail-room c, kept (c .before .before))
-
-average-singly-requires : tie.Need-average-singly-requires Inv-loop μ-loop
-average-singly-requires c κs =
-    let then = c .before in
-    let start = then .before .before .before in
+samples-from-requires : tie.Need-samples-from-requires Inv-loop μ-loop
+samples-from-requires c κs =
+    let start = c .before .before .before in
     let a = start .args in
-    let w = a .lines in
-    let n = a .size / 2 in
-    let z : n * w + w - n * w ≡ w = omega arith in
-    rw z (start .pre .0, omega (arith, then .if1 .taken), part-length (n * w) w (then .before .before .loop .out) (tail-room then))
+    row-begins (a .lines) (a .size) (a .xs .now) (start .pre .0) _ (omega (arith, c .if1 .taken))
+
+mul-copy : tie.Need-mul-copy Inv-loop μ-loop
+mul-copy c = omega (arith, tail-room (c .before), kept (c .before .before .before))
+
+mul-copy-2 : tie.Need-mul-copy-2 Inv-loop μ-loop
+mul-copy-2 c = omega (arith, tail-room (c .before), kept (c .before .before .before))
+
+add-copy : tie.Need-add-copy Inv-loop μ-loop
+add-copy c = omega (arith, tail-room (c .before), kept (c .before .before .before))
+
+mul-copy-3 : tie.Need-mul-copy-3 Inv-loop μ-loop
+mul-copy-3 c = omega (arith, tail-room (c .before), kept (c .before .before .before))
+
+sub-copy : tie.Need-sub-copy Inv-loop μ-loop
+sub-copy c = omega (arith, tail-room (c .before), kept (c .before .before .before))
+
+part-copy-start : tie.Need-part-copy-start Inv-loop μ-loop
+part-copy-start c = omega (arith, tail-room (c .before), kept (c .before .before .before))
+
+part-copy-end : tie.Need-part-copy-end Inv-loop μ-loop
+part-copy-end c = omega (arith, tail-room (c .before), kept (c .before .before .before))
+
+copy-requires : tie.Need-copy-requires Inv-loop μ-loop
+copy-requires c κs = search needs
 
 same-length : tie.Need-same-length Inv-loop μ-loop
 same-length c =
-    let then = c .before .before .before in
-    tailed then _ (c .before .average-singly .ensures) .long ∙ sym (whole (then .before .before))
+    let then = c .before .before .before .before in
+    tailed then _ (c .before .copy .ensures ∙ tails (c .before)) .long ∙ sym (whole (then .before .before))
 
 returns : tie.Need-returns Inv-loop μ-loop
 returns c =
-    let then = c .before .before .before in
+    let then = c .before .before .before .before in
     let a = then .before .before .before .args in
     rows-all (averageEntry false (a .lines) (a .size) (a .xs .now)) (averageCount (a .size)) (a .lines) _ (a .size / 2 + 1) (omega arith)
-    (tailed then _ (c .before .average-singly .ensures))
+    (tailed then _ (c .before .copy .ensures ∙ tails (c .before)))
     ∙ averages-rows false (a .lines) (a .size) (a .xs .now)
 
 same-length-2 : tie.Need-same-length-2 Inv-loop μ-loop
@@ -198,14 +224,16 @@ averages-across-spec =
     loop-less
     loop-again
     add-if1
-    mul-average-singly
-    mul-average-singly-2
-    add-average-singly
-    mul-average-singly-3
-    sub-average-singly
-    part-average-singly-start
-    part-average-singly-end
-    average-singly-requires
+    add-samples-from
+    samples-from-requires
+    mul-copy
+    mul-copy-2
+    add-copy
+    mul-copy-3
+    sub-copy
+    part-copy-start
+    part-copy-end
+    copy-requires
     same-length
     returns
     same-length-2

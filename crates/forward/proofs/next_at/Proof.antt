@@ -1,5 +1,6 @@
 -- `next_at` meets its contract: the next pair's average or tail where there is one, else the own. Assumes nothing.
 use mathlib.Core.Path.{_∙_, sym}
+use mathlib.Core.Bool.{true}
 use native.Mathlib.Omega.{arith}
 use borrow.Author.Needs.{needs}
 use mir.Facts.{toZ-ofZ}
@@ -26,13 +27,13 @@ returns c =
     let next = c .average-at in
     let a = c .before .before .args in
     back32 (next .result) (next .ok) ∙ next .ensures
-    ∙ sym (next-inside (lineIn (a .horizontal) (a .lines) (a .size) (a .xs .now) (a .k)) (a .size) (a .i) (c .before .if1 .taken))
+    ∙ sym (next-inside (lineIn true (a .lines) (a .size) (a .xs .now) (a .k)) (a .size) (a .i) (c .before .if1 .taken))
 
 returns-2 : tie.Need-returns-2
 returns-2 c =
     let a = c .before .args in
     toZ-ofZ (c .before .fits .own) ∙ c .before .pre .3
-    ∙ sym (next-last (lineIn (a .horizontal) (a .lines) (a .size) (a .xs .now) (a .k)) (a .size) (a .i) (omega arith))
+    ∙ sym (next-last (lineIn true (a .lines) (a .size) (a .xs .now) (a .k)) (a .size) (a .i) (omega arith))
 
 pub next-at-spec : {M : Type 1} → statement M
 next-at-spec =

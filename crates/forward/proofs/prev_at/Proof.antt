@@ -1,5 +1,6 @@
 -- `prev_at` meets its contract: the own average before the first pair, else the sample before the pair. Assumes nothing.
 use mathlib.Core.Path.{_∙_, sym}
+use mathlib.Core.Bool.{true}
 use borrow.Author.Needs.{needs}
 use mir.Facts.{toZ-ofZ}
 use Rattle.line.specs.Forward.{lineIn}
@@ -21,14 +22,14 @@ returns : tie.Need-returns
 returns c =
     let a = c .before .args in
     toZ-ofZ (c .before .fits .own) ∙ c .before .pre .3
-    ∙ sym (prev-first (lineIn (a .horizontal) (a .lines) (a .size) (a .xs .now) (a .k)) (a .size) (a .i) (c .if1 .taken))
+    ∙ sym (prev-first (lineIn true (a .lines) (a .size) (a .xs .now) (a .k)) (a .size) (a .i) (c .if1 .taken))
 
 returns-2 : tie.Need-returns-2
 returns-2 c =
     let before = c .sample-at in
     let a = c .before .before .args in
     back32 (before .result) (before .ok) ∙ before .ensures
-    ∙ sym (prev-later (lineIn (a .horizontal) (a .lines) (a .size) (a .xs .now) (a .k)) (a .size) (a .i) (c .before .if1 .left))
+    ∙ sym (prev-later (lineIn true (a .lines) (a .size) (a .xs .now) (a .k)) (a .size) (a .i) (c .before .if1 .left))
 
 pub prev-at-spec : {M : Type 1} → statement M
 prev-at-spec =

@@ -1,5 +1,6 @@
 -- `residual_at` meets its contract: the pair's average is the own one (`average-pair`), and the residual is that of its difference. Assumes nothing.
 use mathlib.Core.Path.{_≡_, _∙_, sym}
+use mathlib.Core.Bool.{true}
 use borrow.Author.Needs.{needs}
 use mir.Val.{toZ, ofZ}
 use mir.Syntax.{w32}
@@ -10,7 +11,7 @@ use Rattle.forward.proofs.residual_at.Statement.{statement}
 use Rattle.forward.proofs.residual_at.Tie as tie
 
 own : (c : tie.After-struct-told2) → let a = c .before .before .before .before .before .args in
-    toZ w32 (ofZ w32 (c .before .before .squeeze .result .average)) ≡ averageAt (lineIn (a .horizontal) (a .lines) (a .size) (a .xs .now) (a .k)) (a .size) (a .i)
+    toZ w32 (ofZ w32 (c .before .before .squeeze .result .average)) ≡ averageAt (lineIn true (a .lines) (a .size) (a .xs .now) (a .k)) (a .size) (a .i)
 own c =
     let pair = c .before .before .squeeze in
     let second = c .before .before .before .sample-at2 in
@@ -20,7 +21,7 @@ own c =
     let b1 = back32 (first .result) (first .ok) ∙ first .ensures in
     let b2 = back32 (second .result) (second .ok) ∙ second .ensures in
     back32 (pair .result .average) (c .before .struct-told .given .0 .1) ∙ rw (b1, b2) at (pair .ensures .0)
-    ∙ sym (average-pair (lineIn (a .horizontal) (a .lines) (a .size) (a .xs .now) (a .k)) (a .size) (a .i) (start .pre .2))
+    ∙ sym (average-pair (lineIn true (a .lines) (a .size) (a .xs .now) (a .k)) (a .size) (a .i) (start .pre .2))
 
 add-sample-at : tie.Need-add-sample-at
 add-sample-at c = search needs
@@ -70,7 +71,7 @@ returns c =
     let b5 = back32 (next .result) (next .ok) ∙ next .ensures in
     let b6 = back32 (prev .result) (prev .ok) ∙ prev .ensures in
     back32 (last .result) (last .ok) ∙ rw (b3, b4, b5, b6) at (last .ensures)
-    ∙ sym (residual-pair (lineIn (a .horizontal) (a .lines) (a .size) (a .xs .now) (a .k)) (a .size) (a .i))
+    ∙ sym (residual-pair (lineIn true (a .lines) (a .size) (a .xs .now) (a .k)) (a .size) (a .i))
 
 pub residual-at-spec : {M : Type 1} → statement M
 residual-at-spec =

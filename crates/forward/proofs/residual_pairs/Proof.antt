@@ -1,9 +1,8 @@
--- `residual_pairs` meets its contract: a stretch across all lines (proofs/Stretches.antt). Assumes nothing.
+-- `residual_pairs` meets its contract: a stretch across all lines (proofs/Across.antt). Assumes nothing.
 use mathlib.Core.Path.{_∙_}
-use Prim.Native.Nat.{_+_, _-_}
 use native.Mathlib.Omega.{arith}
 use borrow.Author.Needs.{needs}
-use Rattle.forward.proofs.Stretches.{row-begins, reach-across, row-residuals}
+use Rattle.forward.proofs.Across.{row-begins, reach-across, row-residuals}
 use Rattle.forward.proofs.residual_pairs.Statement.{statement}
 use Rattle.forward.proofs.residual_pairs.Tie as tie
 
@@ -88,7 +87,7 @@ returns c =
     let p1 = p2 .before in
     let start = p1 .before in
     let a = start .args in
-    rw (p1 .samples-from .ensures, p2 .samples-from2 .ensures, p3 .samples-from3 .ensures, p4 .samples-from4 .ensures, p5 .samples-from5 .ensures, start .pre .3) at (c .before .residual-stretch .ensures)
+    rw (p1 .samples-from .ensures, p2 .samples-from2 .ensures, p3 .samples-from3 .ensures, p4 .samples-from4 .ensures, p5 .samples-from5 .ensures, start .pre .3) at (c .before .residual-stretch .ensures .0)
     ∙ row-residuals (a .lines) (a .size) (a .xs .now) (a .y) (start .pre .1) (start .pre .2)
 
 pub residual-pairs-spec : {M : Type 1} → statement M

@@ -1,5 +1,6 @@
--- `residual_stretch` meets its contract. The loop's invariant: the entries up to x are made (`Row` of proofs/Filled.antt). Assumes nothing.
-use mathlib.Core.Path.{_≡_, refl, sym, _∙_}
+-- `residual_stretch` meets its contract. The loop's invariant: the entries up to x are made (`Row` of proofs/Filled.antt) and
+-- what was read for them are samples. Assumes nothing.
+use mathlib.Core.Path.{_≡_, refl, _∙_}
 use Prim.Native.Nat.{_+_, _-_, _*_, _<_}
 use native.Mathlib.Omega.{arith}
 use borrow.Author.Needs.{needs}
@@ -7,13 +8,15 @@ use lib.IntN.{pos}
 use lib.ListN.{length, getD}
 use Rattle.arith32.proofs.Whole.{back32}
 use Rattle.pair.specs.Pair as P
-use Rattle.forward.specs.Rows.{residualOver}
+use Rattle.forward.specs.Rows.{residualOver, Read}
 use Rattle.forward.proofs.Filled.{Row, row-none, row-more, row-all}
+use Rattle.forward.proofs.Stretches.{read-none, read-more}
 use Rattle.forward.proofs.residual_stretch.Statement.{statement}
 use Rattle.forward.proofs.residual_stretch.Tie as tie
 
 abbrev Inv-loop : tie.InvT-loop
-Inv-loop before first second third fourth step out₀ x₀ x-end out x = (x-end ≡ length out₀) × Row (residualOver before first second third fourth step) 0 (length out₀) out x
+Inv-loop before first second third fourth step out₀ x₀ x-end out x =
+    (x-end ≡ length out₀) × Row (residualOver before first second third fourth step) 0 (length out₀) out x × Read x step third
 
 abbrev μ-loop : tie.MeasureT-loop
 μ-loop before first second third fourth step out₀ x₀ x-end out x = x-end - x
@@ -31,8 +34,11 @@ reach c =
 
 loop-holds : tie.Need-loop-holds Inv-loop μ-loop
 loop-holds c =
-    let a = c .args in
-    (refl, row-none (residualOver (a .before .now) (a .first .now) (a .second .now) (a .third .now) (a .fourth .now) (a .step)) 0 (length (a .out .now)) (a .out .now) refl)
+    let a = c .args in (
+      refl,
+      row-none (residualOver (a .before .now) (a .first .now) (a .second .now) (a .third .now) (a .fourth .now) (a .step)) 0 (length (a .out .now)) (a .out .now) refl,
+      read-none (a .step) (a .third .now),
+    )
 
 mul-i : tie.Need-mul-i Inv-loop μ-loop
 mul-i c = omega (arith, reach c .0)
@@ -113,6 +119,7 @@ loop-again c =
       row-more (residualOver (a .before .now) (a .first .now) (a .second .now) (a .third .now) (a .fourth .now) (a .step)) 0 (length (a .out .now)) (turn .before .loop .out) x _ (turn .loop-test .taken)
           (rw z (back32 (last .result) (last .ok) ∙ rw (d, v, w, b0) at (last .ensures)))
           (turn .before .loop .inv .1),
+      read-more (a .step) (a .third .now) x (next .before .before .squeeze-arg3 .given) (turn .before .loop .inv .2),
     )
 
 same-length : tie.Need-same-length Inv-loop μ-loop
@@ -121,8 +128,11 @@ same-length c = c .before .loop .inv .1 .long
 returns : tie.Need-returns Inv-loop μ-loop
 returns c =
     let a = c .before .before .args in
-    row-all (residualOver (a .before .now) (a .first .now) (a .second .now) (a .third .now) (a .fourth .now) (a .step)) 0 (length (a .out .now)) (c .before .loop .out) (c .before .loop .x)
-    (omega arith) (c .before .loop .inv .1)
+    let loop = c .before .loop in (
+      row-all (residualOver (a .before .now) (a .first .now) (a .second .now) (a .third .now) (a .fourth .now) (a .step)) 0 (length (a .out .now)) (loop .out) (loop .x)
+          (omega arith) (loop .inv .1),
+      λ k l. loop .inv .2 k (omega arith),
+    )
 
 pub residual-stretch-spec : {M : Type 1} → statement M
 residual-stretch-spec =

@@ -58,10 +58,10 @@ last-room c =
     omega (arith, row-room (a .size / 2 - 1) (residualCount (a .size)) (a .lines) (last-row c), c .before .loop .inv .2 .long)
 
 -- the slice with what was left of the first row, and of the last
-first : (c : tie.After-residual-singly Inv-loop μ-loop) (part : List ℤ)
+first : (c : tie.After-first-pairs Inv-loop μ-loop) (part : List ℤ)
     → let a = c .before .before .before .args in
     let w = a .lines in
-    part ≡ table (residualEntry false w (a .size) (a .xs .now)) (0 * w) w
+    part ≡ table (residualEntry false w (a .size) (a .xs .now)) 0 w
     → Row (residualEntry false w (a .size) (a .xs .now)) 0 (residualCount (a .size) * w) (take 0 (a .out .now) ++ (part ++ drop (w - 0) (drop 0 (a .out .now)))) (1 * w)
 first c part h =
     let other = c .before .before in
@@ -91,17 +91,17 @@ returns c =
     rows-all (residualEntry false (a .lines) (a .size) (a .xs .now)) (residualCount (a .size)) (a .lines) (a .out .now) 0 (omega (arith, c .if1 .taken)) (rows-none (residualEntry false (a .lines) (a .size) (a .xs .now)) (residualCount (a .size)) (a .lines) (a .out .now) (whole (c .before)))
     ∙ residuals-rows false (a .lines) (a .size) (a .xs .now)
 
-sub-residual-singly : tie.Need-sub-residual-singly Inv-loop μ-loop
-sub-residual-singly c = search needs
+sub-first-pairs : tie.Need-sub-first-pairs Inv-loop μ-loop
+sub-first-pairs c = search needs
 
-part-residual-singly-start : tie.Need-part-residual-singly-start Inv-loop μ-loop
-part-residual-singly-start c = search needs
+part-first-pairs-start : tie.Need-part-first-pairs-start Inv-loop μ-loop
+part-first-pairs-start c = search needs
 
-part-residual-singly-end : tie.Need-part-residual-singly-end Inv-loop μ-loop
-part-residual-singly-end c = omega (arith, first-room c)
+part-first-pairs-end : tie.Need-part-first-pairs-end Inv-loop μ-loop
+part-first-pairs-end c = omega (arith, first-room c)
 
-residual-singly-requires : tie.Need-residual-singly-requires Inv-loop μ-loop
-residual-singly-requires c κs =
+first-pairs-requires : tie.Need-first-pairs-requires Inv-loop μ-loop
+first-pairs-requires c κs =
     let other = c .before in
     let a = other .before .args in
     let z : a .lines - 0 ≡ a .lines = omega arith in
@@ -110,13 +110,13 @@ residual-singly-requires c κs =
 same-length : tie.Need-same-length Inv-loop μ-loop
 same-length c =
     let made = c .before .before in
-    first made _ (made .residual-singly .ensures) .long ∙ sym (whole (made .before .before .before))
+    first made _ (made .first-pairs .ensures) .long ∙ sym (whole (made .before .before .before))
 
 returns-2 : tie.Need-returns-2 Inv-loop μ-loop
 returns-2 c =
     let made = c .before .before in
     let a = made .before .before .before .args in
-    rows-all (residualEntry false (a .lines) (a .size) (a .xs .now)) (residualCount (a .size)) (a .lines) _ 1 (omega (arith, c .if2 .taken)) (first made _ (made .residual-singly .ensures))
+    rows-all (residualEntry false (a .lines) (a .size) (a .xs .now)) (residualCount (a .size)) (a .lines) _ 1 (omega (arith, c .if2 .taken)) (first made _ (made .first-pairs .ensures))
     ∙ residuals-rows false (a .lines) (a .size) (a .xs .now)
 
 sub-last : tie.Need-sub-last Inv-loop μ-loop
@@ -125,7 +125,7 @@ sub-last c = search needs
 loop-holds : tie.Need-loop-holds Inv-loop μ-loop
 loop-holds c =
     let made = c .before .before in
-    (omega arith, omega (arith, c .if2 .left, made .before .before .if1 .left), first made _ (made .residual-singly .ensures))
+    (omega arith, omega (arith, c .if2 .left, made .before .before .if1 .left), first made _ (made .first-pairs .ensures))
 
 mul-residual-pairs : tie.Need-mul-residual-pairs Inv-loop μ-loop
 mul-residual-pairs c = omega (arith, room c, kept (c .before))
@@ -179,48 +179,50 @@ loop-again c =
           (c .before .residual-pairs .ensures) (loop .inv .2)),
     )
 
-mul-residual-singly : tie.Need-mul-residual-singly Inv-loop μ-loop
-mul-residual-singly c = omega (arith, last-room c, kept (c .before))
+mul-last-pairs : tie.Need-mul-last-pairs Inv-loop μ-loop
+mul-last-pairs c = omega (arith, last-room c, kept (c .before))
 
-mul-residual-singly-2 : tie.Need-mul-residual-singly-2 Inv-loop μ-loop
-mul-residual-singly-2 c = omega (arith, last-room c, kept (c .before))
+mul-last-pairs-2 : tie.Need-mul-last-pairs-2 Inv-loop μ-loop
+mul-last-pairs-2 c = omega (arith, last-room c, kept (c .before))
 
-add-residual-singly : tie.Need-add-residual-singly Inv-loop μ-loop
-add-residual-singly c = omega (arith, last-room c, kept (c .before))
+add-last-pairs : tie.Need-add-last-pairs Inv-loop μ-loop
+add-last-pairs c = omega (arith, last-room c, kept (c .before))
 
-mul-residual-singly-3 : tie.Need-mul-residual-singly-3 Inv-loop μ-loop
-mul-residual-singly-3 c = omega (arith, last-room c, kept (c .before))
+mul-last-pairs-3 : tie.Need-mul-last-pairs-3 Inv-loop μ-loop
+mul-last-pairs-3 c = omega (arith, last-room c, kept (c .before))
 
-sub-residual-singly-2 : tie.Need-sub-residual-singly-2 Inv-loop μ-loop
-sub-residual-singly-2 c = omega (arith, last-room c, kept (c .before))
+sub-last-pairs : tie.Need-sub-last-pairs Inv-loop μ-loop
+sub-last-pairs c = omega (arith, last-room c, kept (c .before))
 
-part-residual-singly-start-2 : tie.Need-part-residual-singly-start-2 Inv-loop μ-loop
-part-residual-singly-start-2 c = omega (arith, last-room c, kept (c .before))
+part-last-pairs-start : tie.Need-part-last-pairs-start Inv-loop μ-loop
+part-last-pairs-start c = omega (arith, last-room c, kept (c .before))
 
-part-residual-singly-end-2 : tie.Need-part-residual-singly-end-2 Inv-loop μ-loop
-part-residual-singly-end-2 c = omega (arith, last-room c, kept (c .before))
+part-last-pairs-end : tie.Need-part-last-pairs-end Inv-loop μ-loop
+part-last-pairs-end c = omega (arith, last-room c, kept (c .before))
 
-residual-singly-requires-2 : tie.Need-residual-singly-requires-2 Inv-loop μ-loop
-residual-singly-requires-2 c κs =
+last-pairs-requires : tie.Need-last-pairs-requires Inv-loop μ-loop
+last-pairs-requires c κs =
     let ended = c .before in
     let start = ended .before .before .before .before .before .before .before in
     let a = start .args in
     let w = a .lines in
     let last = a .size / 2 - 1 in
+    let inv = ended .before .loop .inv in
     let z : last * w + w - last * w ≡ w = omega arith in
-    rw z (start .pre .0, last-row ended, part-length (last * w) w (ended .before .loop .out) (last-room ended))
+    let room = part-length (last * w) w (ended .before .loop .out) (last-room ended) in
+    rw z (start .pre .0, omega (arith, inv .0, inv .1), omega (arith, inv .0, inv .1), room)
 
 same-length-2 : tie.Need-same-length-2 Inv-loop μ-loop
 same-length-2 c =
     let ended = c .before .before .before in
-    closed ended _ (c .before .residual-singly2 .ensures) .long ∙ sym (whole (ended .before .before .before .before .before .before .before))
+    closed ended _ (c .before .last-pairs .ensures) .long ∙ sym (whole (ended .before .before .before .before .before .before .before))
 
 returns-3 : tie.Need-returns-3 Inv-loop μ-loop
 returns-3 c =
     let ended = c .before .before .before in
     let a = ended .before .before .before .before .before .before .before .args in
     rows-all (residualEntry false (a .lines) (a .size) (a .xs .now)) (residualCount (a .size)) (a .lines) _ (a .size / 2 - 1 + 1) (omega arith)
-    (closed ended _ (c .before .residual-singly2 .ensures))
+    (closed ended _ (c .before .last-pairs .ensures))
     ∙ residuals-rows false (a .lines) (a .size) (a .xs .now)
 
 pub residuals-across-spec : {M : Type 1} → statement M
@@ -230,10 +232,10 @@ residuals-across-spec =
     Inv-loop
     μ-loop
     returns
-    sub-residual-singly
-    part-residual-singly-start
-    part-residual-singly-end
-    residual-singly-requires
+    sub-first-pairs
+    part-first-pairs-start
+    part-first-pairs-end
+    first-pairs-requires
     same-length
     returns-2
     sub-last
@@ -249,13 +251,13 @@ residuals-across-spec =
     add-y
     loop-less
     loop-again
-    mul-residual-singly
-    mul-residual-singly-2
-    add-residual-singly
-    mul-residual-singly-3
-    sub-residual-singly-2
-    part-residual-singly-start-2
-    part-residual-singly-end-2
-    residual-singly-requires-2
+    mul-last-pairs
+    mul-last-pairs-2
+    add-last-pairs
+    mul-last-pairs-3
+    sub-last-pairs
+    part-last-pairs-start
+    part-last-pairs-end
+    last-pairs-requires
     same-length-2
     returns-3)

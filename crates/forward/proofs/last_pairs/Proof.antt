@@ -1,0 +1,130 @@
+-- `last_pairs` meets its contract: a stretch across all lines (`row-lasts` of proofs/Across.antt). Assumes nothing.
+use mathlib.Core.Path.{_∙_}
+use Prim.Native.Nat.{_<_}
+use native.Mathlib.Omega.{arith}
+use borrow.Author.Needs.{needs}
+use Rattle.forward.proofs.Nexts.{first-inside, second-inside}
+use Rattle.forward.proofs.Across.{row-begins, reach-across, row-lasts}
+use Rattle.forward.proofs.last_pairs.Statement.{statement}
+use Rattle.forward.proofs.last_pairs.Tie as tie
+
+-- what stands for the pair after lies inside
+third-inside : (c : tie.After-next-first) → c .next-first .result < c .before .args .size
+third-inside c = rw (c .next-first .ensures) (first-inside (c .before .args .size) (c .before .args .last) (c .before .pre .2))
+
+fourth-inside : (c : tie.After-next-second) → c .next-second .result < c .before .before .args .size
+fourth-inside c =
+    let first = c .before in
+    rw (c .next-second .ensures) (second-inside (first .before .args .size) (first .next-first .result) (third-inside first))
+
+next-first-requires : tie.Need-next-first-requires
+next-first-requires c κs = c .pre .2
+
+next-second-requires : tie.Need-next-second-requires
+next-second-requires c κs = third-inside c
+
+add-samples-from : tie.Need-add-samples-from
+add-samples-from c = search needs
+
+sub-samples-from : tie.Need-sub-samples-from
+sub-samples-from c = search needs
+
+samples-from-requires : tie.Need-samples-from-requires
+samples-from-requires c κs =
+    let places = c in
+    let start = places .before .before in
+    let a = start .args in
+    row-begins (a .lines) (a .size) (a .xs .now) (start .pre .0) _ (omega arith)
+
+add-samples-from-2 : tie.Need-add-samples-from-2
+add-samples-from-2 c = search needs
+
+samples-from-requires-2 : tie.Need-samples-from-requires-2
+samples-from-requires-2 c κs =
+    let places = c .before in
+    let start = places .before .before in
+    let a = start .args in
+    row-begins (a .lines) (a .size) (a .xs .now) (start .pre .0) _ (omega arith)
+
+add-samples-from-3 : tie.Need-add-samples-from-3
+add-samples-from-3 c = search needs
+
+add-samples-from-4 : tie.Need-add-samples-from-4
+add-samples-from-4 c = search needs
+
+samples-from-requires-3 : tie.Need-samples-from-requires-3
+samples-from-requires-3 c κs =
+    let places = c .before .before in
+    let start = places .before .before in
+    let a = start .args in
+    row-begins (a .lines) (a .size) (a .xs .now) (start .pre .0) _ (omega arith)
+
+samples-from-requires-4 : tie.Need-samples-from-requires-4
+samples-from-requires-4 c κs =
+    let places = c .before .before .before in
+    let start = places .before .before in
+    let a = start .args in
+    row-begins (a .lines) (a .size) (a .xs .now) (start .pre .0) _ (omega (arith, third-inside (places .before)))
+
+samples-from-requires-5 : tie.Need-samples-from-requires-5
+samples-from-requires-5 c κs =
+    let places = c .before .before .before .before in
+    let start = places .before .before in
+    let a = start .args in
+    row-begins (a .lines) (a .size) (a .xs .now) (start .pre .0) _ (omega (arith, fourth-inside places))
+
+residual-stretch-requires : tie.Need-residual-stretch-requires
+residual-stretch-requires c κs =
+    let p5 = c .before in
+    let p4 = p5 .before in
+    let p3 = p4 .before in
+    let p2 = p3 .before in
+    let p1 = p2 .before in
+    let places = p1 .before in
+    let start = places .before .before in
+    let a = start .args in
+    rw (p1 .samples-from .ensures, p2 .samples-from2 .ensures, p3 .samples-from3 .ensures, p4 .samples-from4 .ensures, p5 .samples-from5 .ensures, start .pre .3) (
+      reach-across (a .lines) (a .size) (a .xs .now) (start .pre .0) _ (omega arith),
+      reach-across (a .lines) (a .size) (a .xs .now) (start .pre .0) _ (omega arith),
+      reach-across (a .lines) (a .size) (a .xs .now) (start .pre .0) _ (omega arith),
+      reach-across (a .lines) (a .size) (a .xs .now) (start .pre .0) _ (third-inside (places .before)),
+      reach-across (a .lines) (a .size) (a .xs .now) (start .pre .0) _ (fourth-inside places),
+    )
+
+same-length : tie.Need-same-length
+same-length c = search needs
+
+returns : tie.Need-returns
+returns c =
+    let p5 = c .before .before .before in
+    let p4 = p5 .before in
+    let p3 = p4 .before in
+    let p2 = p3 .before in
+    let p1 = p2 .before in
+    let places = p1 .before in
+    let start = places .before .before in
+    let a = start .args in
+    let e = rw (p1 .samples-from .ensures, p2 .samples-from2 .ensures, p3 .samples-from3 .ensures) at (c .before .residual-stretch .ensures) in
+    let f = rw (p4 .samples-from4 .ensures, p5 .samples-from5 .ensures) at e in
+    let made = rw (start .pre .3, places .next-second .ensures, places .before .next-first .ensures) at f in
+    made .0 ∙ row-lasts (a .lines) (a .size) (a .xs .now) (a .last) (start .pre .1) (start .pre .2) (made .1)
+
+pub last-pairs-spec : {M : Type 1} → statement M
+last-pairs-spec =
+    tie.close
+    (tie.spec
+    next-first-requires
+    next-second-requires
+    add-samples-from
+    sub-samples-from
+    samples-from-requires
+    add-samples-from-2
+    samples-from-requires-2
+    add-samples-from-3
+    add-samples-from-4
+    samples-from-requires-3
+    samples-from-requires-4
+    samples-from-requires-5
+    residual-stretch-requires
+    same-length
+    returns)
