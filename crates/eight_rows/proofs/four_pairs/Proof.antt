@@ -9,6 +9,13 @@ use Rattle.eight_rows.proofs.Blocks.{four-ordinary}
 use Rattle.eight_rows.proofs.four_pairs.Statement.{statement}
 use Rattle.eight_rows.proofs.four_pairs.Tie as tie
 
+-- the first store and the start, from the state after the third block
+abbrev first-store : tie.After-c1 → tie.After-store-four
+first-store c = c .before .before .before .before .before
+
+abbrev start : tie.After-c1 → tie.Start
+start c = first-store c .before .before .before .before .before .before .before .before .before .before .before .before .before .before
+
 -- the block before is one of eight
 prior-length : (c : tie.Start) → length (c .args .prior) ≡ 8
 prior-length c = search needs
@@ -86,16 +93,16 @@ array-copy-out-c1 : tie.Need-array-copy-out-c1
 array-copy-out-c1 c = search needs
 
 add-load-lanes-6 : tie.Need-add-load-lanes-6
-add-load-lanes-6 c = omega (arith, c .before .before .before .before .before .before .before .before .before .before .before .before .before .before .before .before .before .before .before .pre .6)
+add-load-lanes-6 c = omega (arith, start c .pre .6)
 
 load-lanes-requires-8 : tie.Need-load-lanes-requires-8
-load-lanes-requires-8 c κs = let pre = c .before .before .before .before .before .before .before .before .before .before .before .before .before .before .before .before .before .before .before .pre in omega (arith, pre .5, pre .6)
+load-lanes-requires-8 c κs = let pre = start c .pre in omega (arith, pre .5, pre .6)
 
 add-load-lanes-7 : tie.Need-add-load-lanes-7
-add-load-lanes-7 c = let start = c .before .before .before .before .before .before .before .before .before .before .before .before .before .before .before .before .before .before .before .before in omega (arith, start .pre .3, start .fits .m)
+add-load-lanes-7 c = let s = start (c .before) in omega (arith, s .pre .3, s .fits .m)
 
 load-lanes-requires-9 : tie.Need-load-lanes-requires-9
-load-lanes-requires-9 c κs = let pre = c .before .before .before .before .before .before .before .before .before .before .before .before .before .before .before .before .before .before .before .before .pre in omega (arith, pre .1, pre .3)
+load-lanes-requires-9 c κs = let pre = start (c .before) .pre in omega (arith, pre .1, pre .3)
 
 unsqueeze-block-requires-4 : tie.Need-unsqueeze-block-requires-4
 unsqueeze-block-requires-4 c κs = search needs
@@ -107,16 +114,16 @@ array-copy-out-d1 : tie.Need-array-copy-out-d1
 array-copy-out-d1 c = search needs
 
 add-store-four-2 : tie.Need-add-store-four-2
-add-store-four-2 c = let start = c .before .before .before .before .before .before .before .before .before .before .before .before .before .before .before .before .before .before .before .before .before .before .before .before .before in omega (arith, start .pre .2, start .pre .3, start .pre .4, start .good)
+add-store-four-2 c = let s = start (c .before .before .before .before .before .before) in omega (arith, s .pre .2, s .pre .3, s .pre .4, s .good)
 
 add-store-four-3 : tie.Need-add-store-four-3
-add-store-four-3 c = let start = c .before .before .before .before .before .before .before .before .before .before .before .before .before .before .before .before .before .before .before .before .before .before .before .before .before in omega (arith, start .pre .2, start .pre .3, start .pre .4, start .good)
+add-store-four-3 c = let s = start (c .before .before .before .before .before .before) in omega (arith, s .pre .2, s .pre .3, s .pre .4, s .good)
 
 store-four-requires-2 : tie.Need-store-four-requires-2
 store-four-requires-2 c κs =
-    let first-store = c .before .before .before .before .before .before .before .before .before .before .before in
-    let pre = first-store .before .before .before .before .before .before .before .before .before .before .before .before .before .before .pre in
-    let l = first-store .store-four .kept .0 in
+    let third = c .before .before .before .before .before .before in
+    let pre = start third .pre in
+    let l = first-store third .store-four .kept .0 in
     (omega (arith, pre .2, pre .3, pre .4, l), omega (arith, pre .3, pre .4))
 
 same-length : tie.Need-same-length
@@ -131,8 +138,8 @@ returns c =
     let r3 = x4 .before in
     let third = r3 .before .before .before in
     let r2 = third .before in
-    let first-store = r2 .before .before in
-    let b = first-store .before .before .before .before in
+    let store = r2 .before .before in
+    let b = store .before .before .before .before in
     let r1 = b .before in
     let a = r1 .before .before .before in
     let r0 = a .before in
@@ -140,15 +147,22 @@ returns c =
     let x3 = x0 .before in
     let x2 = x3 .before in
     let x1 = x2 .before in
-    let start = x1 .before in
-    let g = start .args in
-    let pre = start .pre in
+    let s = x1 .before in
+    let g = s .args in
+    let pre = s .pre in
     let zq : g .q + 0 ≡ g .q = omega arith in
     let zp : g .p + 0 ≡ g .p = omega arith in
-    rw (second-store .store-four2 .ensures, first-store .store-four .ensures, d .unsqueeze-block4 .ensures, third .unsqueeze-block3 .ensures, b .unsqueeze-block2 .ensures, a .unsqueeze-block .ensures)
+    rw (
+      second-store .store-four2 .ensures,
+      store .store-four .ensures,
+      d .unsqueeze-block4 .ensures,
+      third .unsqueeze-block3 .ensures,
+      b .unsqueeze-block2 .ensures,
+      a .unsqueeze-block .ensures,
+    )
     (four-ordinary (g .m) (g .n) (g .avg .now) res (x0 .load-lanes4 .result) (r0 .load-lanes5 .result) (x1 .load-lanes .result) (r1 .load-lanes6 .result)
     (x2 .load-lanes2 .result) (r2 .load-lanes7 .result) (x3 .load-lanes3 .result) (r3 .load-lanes8 .result) (x4 .load-lanes9 .result) (g .prior) (g .out .now) (g .p)
-    (omega arith) (pre .0) (prior-length start) (x0 .load-lanes4 .ensures) (x1 .load-lanes .ensures) (x2 .load-lanes2 .ensures) (x3 .load-lanes3 .ensures)
+    (omega arith) (pre .0) (prior-length s) (x0 .load-lanes4 .ensures) (x1 .load-lanes .ensures) (x2 .load-lanes2 .ensures) (x3 .load-lanes3 .ensures)
     (x4 .load-lanes9 .ensures) (r0 .load-lanes5 .ensures ∙ rw (zq, zp) at (lanes 0 (omega arith))) (r1 .load-lanes6 .ensures ∙ lanes 1 (omega arith))
     (r2 .load-lanes7 .ensures ∙ lanes 2 (omega arith)) (r3 .load-lanes8 .ensures ∙ lanes 3 (omega arith)) (pre .2))
 
