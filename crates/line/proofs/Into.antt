@@ -17,9 +17,27 @@ use Rattle.line.proofs.Lines.{lt-or-ge}
 use Rattle.line.proofs.Outputs.{uncut-length}
 
 -- ---- both parts of a conjunction
-both : (a b : Bool) → a && b ≡ true → (a ≡ true) × (b ≡ true)
-both true b e = (refl, e)
-both false b e = absurd (subst T (sym e) tt)
+pub and-true : (a b : Bool) → a && b ≡ true → (a ≡ true) × (b ≡ true)
+and-true true b e = (refl, e)
+and-true false b e = absurd (subst T (sym e) tt)
+
+-- ---- an outer line
+pub outer-line : (lines : ℕ) (xs : List ℤ) → outerFits lines xs ≡ true → (length xs ≡ 0) ⊎ (length xs ≡ lines)
+unfolding outerFits
+outer-line lines xs e = by-test (eqb (length xs) 0) refl e
+  where
+    by-test : (t : Bool) → eqb (length xs) 0 ≡ t → t || eqb (length xs) lines ≡ true → (length xs ≡ 0) ⊎ (length xs ≡ lines)
+    by-test true q p = inl (eqb-true (length xs) 0 q)
+    by-test false q p = inr (eqb-true (length xs) lines p)
+
+pub is-outer : (lines : ℕ) (xs : List ℤ) → (length xs ≡ 0) ⊎ (length xs ≡ lines) → outerFits lines xs ≡ true
+unfolding outerFits
+is-outer lines xs (inl e) = rw (eq-eqb (length xs) 0 e)
+is-outer lines xs (inr e) = right (eqb (length xs) 0) (eq-eqb (length xs) lines e)
+  where
+    right : (a : Bool) {b : Bool} → b ≡ true → a || b ≡ true
+    right true q = refl
+    right false q = q
 
 module _ (lines m n : ℕ) (avg res next prev out : List ℤ) where
   -- ---- the value by the parts
@@ -40,49 +58,32 @@ module _ (lines m n : ℕ) (avg res next prev out : List ℤ) where
       → (outerFits lines next && outerFits lines prev) && eqb (length out) (length avg + length res) ≡ fits lines m n avg res next prev out
   unfolding fits
   by-rest l h e =
-      let a = eqb-true (length avg) (lines * m) (both (eqb (length avg) (lines * m)) (eqb (length res) (lines * n)) e .0) in
-      let r = eqb-true (length res) (lines * n) (both (eqb (length avg) (lines * m)) (eqb (length res) (lines * n)) e .1) in
+      let a = eqb-true (length avg) (lines * m) (and-true (eqb (length avg) (lines * m)) (eqb (length res) (lines * n)) e .0) in
+      let r = eqb-true (length res) (lines * n) (and-true (eqb (length avg) (lines * m)) (eqb (length res) (lines * n)) e .1) in
       let s : length avg + length res ≡ lines * (m + n) = omega arith in
       rw (le-leb n m l, le-leb m (n + 1) h, e, s)
 
   -- ---- what it says
-  outer-line : (xs : List ℤ) → outerFits lines xs ≡ true → (length xs ≡ 0) ⊎ (length xs ≡ lines)
-  unfolding outerFits
-  outer-line xs e = by-test (eqb (length xs) 0) refl e
-    where
-      by-test : (t : Bool) → eqb (length xs) 0 ≡ t → t || eqb (length xs) lines ≡ true → (length xs ≡ 0) ⊎ (length xs ≡ lines)
-      by-test true q p = inl (eqb-true (length xs) 0 q)
-      by-test false q p = inr (eqb-true (length xs) lines p)
-
   pub fits-fitting : (horizontal : Bool) → fits lines m n avg res next prev out ≡ true
       → Fitting (squeeze horizontal lines m n avg res next prev) × (length out ≡ lines * (m + n))
   unfolding fits
   fits-fitting horizontal e =
-      let p = both (leb n m && leb m (n + 1)) _ e in
-      let q = both (leb n m) (leb m (n + 1)) (p .0) in
-      let r = both (eqb (length avg) (lines * m) && eqb (length res) (lines * n)) _ (p .1) in
-      let t = both (eqb (length avg) (lines * m)) (eqb (length res) (lines * n)) (r .0) in
-      let u = both (outerFits lines next && outerFits lines prev) _ (r .1) in
-      let v = both (outerFits lines next) (outerFits lines prev) (u .0) in (
+      let p = and-true (leb n m && leb m (n + 1)) _ e in
+      let q = and-true (leb n m) (leb m (n + 1)) (p .0) in
+      let r = and-true (eqb (length avg) (lines * m) && eqb (length res) (lines * n)) _ (p .1) in
+      let t = and-true (eqb (length avg) (lines * m)) (eqb (length res) (lines * n)) (r .0) in
+      let u = and-true (outerFits lines next && outerFits lines prev) _ (r .1) in
+      let v = and-true (outerFits lines next) (outerFits lines prev) (u .0) in (
         record {
           low = leb-true n m (q .0);
           high = leb-true m (n + 1) (q .1);
           avg-length = eqb-true (length avg) (lines * m) (t .0);
           res-length = eqb-true (length res) (lines * n) (t .1);
-          next-length = outer-line next (v .0);
-          prev-length = outer-line prev (v .1);
+          next-length = outer-line lines next (v .0);
+          prev-length = outer-line lines prev (v .1);
         },
         eqb-true (length out) (lines * (m + n)) (u .1),
       )
-
-  is-outer : (xs : List ℤ) → (length xs ≡ 0) ⊎ (length xs ≡ lines) → outerFits lines xs ≡ true
-  unfolding outerFits
-  is-outer xs (inl e) = rw (eq-eqb (length xs) 0 e)
-  is-outer xs (inr e) = right (eqb (length xs) 0) (eq-eqb (length xs) lines e)
-    where
-      right : (a : Bool) {b : Bool} → b ≡ true → a || b ≡ true
-      right true q = refl
-      right false q = q
 
   pub fitting-fits : {horizontal : Bool} → Fitting (squeeze horizontal lines m n avg res next prev) → length out ≡ lines * (m + n)
       → fits lines m n avg res next prev out ≡ true
@@ -93,8 +94,8 @@ module _ (lines m n : ℕ) (avg res next prev out : List ℤ) where
         le-leb m (n + 1) (f .high),
         eq-eqb (length avg) (lines * m) (f .avg-length),
         eq-eqb (length res) (lines * n) (f .res-length),
-        is-outer next (f .next-length),
-        is-outer prev (f .prev-length),
+        is-outer lines next (f .next-length),
+        is-outer lines prev (f .prev-length),
         eq-eqb (length out) (lines * (m + n)) e,
       )
 

@@ -1,5 +1,5 @@
 -- A call whose sizes and slices fit is accepted, in either direction, and makes the squeeze of its arguments. Assumes nothing.
-use mathlib.Core.Path.{_≡_, refl, sym, ap, _∙_}
+use mathlib.Core.Path.{_≡_, refl, sym, _∙_}
 use mathlib.Core.Bool.{Bool, true, false, _&&_, _||_}
 use mathlib.Core.List.{List}
 use mathlib.Core.Logic.{_⊎_, inl, inr}
@@ -11,11 +11,12 @@ use lib.Dec.{eqb}
 use lib.IntN.{ℤ}
 use lib.ListN.{length}
 use Rattle.numbers.specs.Numbers.{maxSide, maxSamples}
-use Rattle.tile.specs.declared.Sides.{Sides}
 use Rattle.line.specs.Uncut.{squeeze, uncut}
 use Rattle.tile.specs.Call.{Call, sides, area, areaAllowed, areasAllowed, sidesSmall, sidesFit, lineFits, sizesFit, slicesFit, answer, squeezeOf, after}
 use Rattle.tile.specs.Call as Spec
+use Rattle.line.proofs.Into.{is-outer}
 use Rattle.line.proofs.Lines.{lt-or-ge}
+use Rattle.tile.proofs.Fitted.{same-test}
 
 both : {a b : Bool} → a ≡ true → b ≡ true → a && b ≡ true
 both ea eb = rw (ea, eb)
@@ -49,9 +50,7 @@ squeeze-of-call true lines a r avg res next prev out = refl
 squeeze-of-call false lines a r avg res next prev out = refl
 
 line-fits : (crossing : ℕ) (xs : List ℤ) → (length xs ≡ 0) ⊎ (length xs ≡ crossing) → lineFits crossing xs ≡ true
-unfolding lineFits
-line-fits crossing xs (inl e) = left (eqb (length xs) crossing) (eq-eqb (length xs) 0 e)
-line-fits crossing xs (inr e) = right (eqb (length xs) 0) (eq-eqb (length xs) crossing e)
+line-fits crossing xs h = sym (same-test crossing xs) ∙ is-outer crossing xs h
 
 -- so many lines of so many samples: the area, whichever side is the width
 area-of : (h : Bool) (lines n : ℕ) → area (sides h lines n) ≡ lines * n

@@ -4,23 +4,21 @@ use mathlib.Core.Path.{_≡_, refl, sym, ap, _∙_}
 use mathlib.Core.Bool.{Bool, true, false, cond, _&&_, _||_, not}
 use mathlib.Core.List.{List}
 use mathlib.Core.Logic.{_⊎_, inl, inr}
-use Prim.Native.Nat.{ℕ, zero, suc, _+_, _*_, _≤_}
+use Prim.Native.Nat.{ℕ, suc, _+_, _*_, _≤_}
 use native.Mathlib.Omega.{arith}
 use native.Mathlib.Nat.{mul-comm}
 use borrow.Author.Tests.{leb-true, eqb-true, eq-eqb, ne-eqb}
-use lib.Dec.{eqb, leb}
+use lib.Dec.{eqb}
 use lib.IntN.{ℤ}
 use lib.ListN.{length}
 use Rattle.numbers.specs.Numbers.{maxSamples, refusedSamples, refusedSizes, refusedLength}
 use Rattle.line.specs.Uncut.{Fitting, uncut}
+use Rattle.line.specs.Into.{outerFits}
+use Rattle.line.proofs.Into.{and-true, outer-line}
 use Rattle.tile.specs.declared.Sides.{Sides}
 use Rattle.tile.specs.Call.{Call, area, areaAllowed, areasAllowed, along, across, sidesSmall, sidesFit, lineFits, sizesFit, slicesFit, answer, squeezeOn, squeezeOf, after}
 
 -- ---- tests taken apart
-pub and-true : (a b : Bool) → a && b ≡ true → (a ≡ true) × (b ≡ true)
-and-true true b e = (refl, e)
-and-true false b e = let z : _≡_ {A = ℕ} 0 1 = cc in absurd (omega arith)
-
 or-true : (a b : Bool) → a || b ≡ true → (a ≡ true) ⊎ (b ≡ true)
 or-true true b e = inl refl
 or-true false b e = inr e
@@ -110,13 +108,13 @@ sides-fit h a r o e =
     one-or-none (inl t) = let z = eqb-true (along h a) (along h r) t in (omega arith, omega arith)
     one-or-none (inr t) = let z = eqb-true (along h a) (along h r + 1) t in (omega arith, omega arith)
 
+-- the test of an outer line is that of the crate line
+pub same-test : (n : ℕ) (xs : List ℤ) → outerFits n xs ≡ lineFits n xs
+unfolding lineFits outerFits
+same-test n xs = refl
+
 line-fits : (n : ℕ) (xs : List ℤ) → lineFits n xs ≡ true → (length xs ≡ 0) ⊎ (length xs ≡ n)
-unfolding lineFits
-line-fits n xs e = by (or-true (eqb (length xs) 0) (eqb (length xs) n) e)
-  where
-    by : (eqb (length xs) 0 ≡ true) ⊎ (eqb (length xs) n ≡ true) → (length xs ≡ 0) ⊎ (length xs ≡ n)
-    by (inl t) = inl (eqb-true (length xs) 0 t)
-    by (inr t) = inr (eqb-true (length xs) n t)
+line-fits n xs e = outer-line n xs (same-test n xs ∙ e)
 
 -- ---- an accepted call
 module _ (c : Call) (f : sizesFit c ≡ true) (g : slicesFit c ≡ true) where

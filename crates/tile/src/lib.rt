@@ -46,12 +46,6 @@ fn sides_small(s: Sides) -> bool
     (s.width <= MAX_SIDE) & (s.height <= MAX_SIDE)
 }
 
-fn line_fits(crossing: usize, s: &[i32]) -> bool
-    ensures { λ r. ⌜ r ≡ Call.lineFits crossing (now (s .entry)) ⌝ }
-{
-    (s.len() == 0) | (s.len() == crossing)
-}
-
 // Question 12, without the outer lines.
 fn sides_fit(horizontal: bool, a: Sides, r: Sides, o: Sides) -> bool
     ensures { λ f. ⌜ f ≡ Call.sidesFit horizontal a r o ⌝ }
@@ -128,7 +122,8 @@ pub fn squeeze_tile<'a>(
     }
     let h = horizontal != 0;
     let crossing = across(h, a);
-    if !(sides_fit(h, a, r, o) & (line_fits(crossing, next) & line_fits(crossing, prev))) {
+    if !(sides_fit(h, a, r, o)
+        & (line::outer_fits(crossing, next) & line::outer_fits(crossing, prev))) {
         return REFUSED_SIZES;
     }
     if !((avg.len() == aw * ah) & ((res.len() == rw * rh) & (out.len() == ow * oh))) {

@@ -1,15 +1,16 @@
 -- `sides_fit` meets its contract: not if a side is too large, else by the sums, which then fit. Assumes nothing.
-use mathlib.Core.Path.{_≡_, refl, sym, ap, _∙_}
-use mathlib.Core.Bool.{Bool, true, false, _&&_, _||_, not}
-use Prim.Native.Nat.{ℕ, _+_, _≤_}
+use mathlib.Core.Path.{_≡_, sym, _∙_}
+use mathlib.Core.Bool.{Bool, true, false, _&&_}
+use Prim.Native.Nat.{_≤_}
 use native.Mathlib.Omega.{arith}
 use borrow.Author.Needs.{needs}
 use borrow.Author.Tests.{leb-true}
-use lib.Dec.{eqb, leb}
+use lib.Dec.{leb}
 use Rattle.numbers.specs.Numbers.{maxSide}
 use Rattle.tile.specs.declared.Sides.{Sides}
 use Rattle.tile.specs.Call.{along, across, sidesSmall, sidesFit}
-use Rattle.tile.proofs.Fitted.{and-true, not-false, not-true}
+use Rattle.line.proofs.Into.{and-true}
+use Rattle.tile.proofs.Fitted.{not-false, not-true}
 use Rattle.tile.proofs.sides_fit.Statement.{statement}
 use Rattle.tile.proofs.sides_fit.Tie as tie
 

@@ -4,9 +4,9 @@ use mathlib.Core.Path.{_≡_, sym, _∙_}
 use mathlib.Core.Bool.{Bool, true, false, _&&_}
 use native.Mathlib.Omega.{arith}
 use borrow.Author.Needs.{needs}
-use Rattle.line.proofs.Into.{fitting-fits, into-fits}
-use Rattle.tile.specs.Call.{Call, call, areaAllowed, areasAllowed, sizesFit, slicesFit, squeezeOf}
-use Rattle.tile.proofs.Fitted.{and-true, not-false, not-true, five, thirteen, twelve, none, kept, made, area-small, fitting, out-length}
+use Rattle.line.proofs.Into.{and-true, fitting-fits, into-fits}
+use Rattle.tile.specs.Call.{Call, call, across, areaAllowed, areasAllowed, sizesFit, slicesFit, squeezeOf}
+use Rattle.tile.proofs.Fitted.{same-test, not-false, not-true, five, thirteen, twelve, none, kept, made, area-small, fitting, out-length}
 use Rattle.tile.proofs.squeeze_tile.Statement.{statement}
 use Rattle.tile.proofs.squeeze_tile.Tie as tie
 
@@ -37,13 +37,15 @@ each-area c =
     (p .0, q .0, q .1)
 
 -- ---- question 12
-sizes : (c : tie.After-line-fits2) (b : Bool)
-    → (c .before .before .sides-fit .result && (c .before .line-fits .result && c .line-fits2 .result)) ≡ b
+sizes : (c : tie.After-outer-fits2) (b : Bool)
+    → (c .before .before .sides-fit .result && (c .before .outer-fits .result && c .outer-fits2 .result)) ≡ b
     → sizesFit (the-call (c .before .before .before .before .before .before .before .before)) ≡ b
 unfolding sizesFit
 sizes c b e =
+    let k = the-call (c .before .before .before .before .before .before .before .before) in
     let x = c .before .before .before .across .ensures in
-    rw (← c .before .before .sides-fit .ensures, ← x, ← c .before .line-fits .ensures, ← c .line-fits2 .ensures) e
+    let n = across (k .horizontal) (k .avgSides) in
+    rw (← same-test n (k .next), ← same-test n (k .prev), ← c .before .before .sides-fit .ensures, ← x, ← c .before .outer-fits .ensures, ← c .outer-fits2 .ensures) e
 
 sizes-yes : (c : tie.Else2) → sizesFit (the-call (c .before .before .before .before .before .before .before .before .before)) ≡ true
 sizes-yes c = sizes (c .before) true (not-false _ (c .if2 .left))
@@ -78,11 +80,11 @@ across-requires c κs = search needs
 sides-fit-requires : tie.Need-sides-fit-requires
 sides-fit-requires c κs = search needs
 
-line-fits-requires : tie.Need-line-fits-requires
-line-fits-requires c κs = search needs
+outer-fits-requires : tie.Need-outer-fits-requires
+outer-fits-requires c κs = search needs
 
-line-fits-requires-2 : tie.Need-line-fits-requires-2
-line-fits-requires-2 c κs = search needs
+outer-fits-requires-2 : tie.Need-outer-fits-requires-2
+outer-fits-requires-2 c κs = search needs
 
 returns-2 : tie.Need-returns-2
 returns-2 c =
@@ -135,8 +137,8 @@ squeeze-tile-spec =
     returns
     across-requires
     sides-fit-requires
-    line-fits-requires
-    line-fits-requires-2
+    outer-fits-requires
+    outer-fits-requires-2
     returns-2
     mul-if3
     mul-if3-2
