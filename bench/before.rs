@@ -4,6 +4,9 @@
 //!
 //! usage: before [SECONDS-PER-ROW]
 
+mod noise;
+
+use noise::samples;
 use std::time::Instant;
 
 type Tile = unsafe extern "C" fn(
@@ -16,53 +19,31 @@ type Run = unsafe extern "C" fn(
     *const u8, usize, *const i32, usize, *mut i32, usize, *mut i32, usize,
 ) -> u32;
 
-#[link(name = "before", kind = "static")]
-extern "C" {
-    fn before_rebuild(
-        record: *const u8, record_len: usize, from: *const i32, from_len: usize,
-        to: *mut i32, to_len: usize, work: *mut i32, work_len: usize,
-    ) -> u32;
-    fn before_write(
-        record: *const u8, record_len: usize, from: *const i32, from_len: usize,
-        to: *mut i32, to_len: usize, work: *mut i32, work_len: usize,
-    ) -> u32;
-    fn before_tile(
-        horizontal: u32, aw: usize, ah: usize, rw: usize, rh: usize, ow: usize, oh: usize,
-        avg: *const i32, avg_len: usize, res: *const i32, res_len: usize,
-        next: *const i32, next_len: usize, prev: *const i32, prev_len: usize,
-        out: *mut i32, out_len: usize,
-    ) -> u32;
+/// An archive's functions, under its own names.
+macro_rules! archive {
+    ($library:literal, $tile:ident, $rebuild:ident, $write:ident) => {
+        #[link(name = $library, kind = "static")]
+        extern "C" {
+            fn $tile(
+                horizontal: u32, aw: usize, ah: usize, rw: usize, rh: usize, ow: usize, oh: usize,
+                avg: *const i32, avg_len: usize, res: *const i32, res_len: usize,
+                next: *const i32, next_len: usize, prev: *const i32, prev_len: usize,
+                out: *mut i32, out_len: usize,
+            ) -> u32;
+            fn $rebuild(
+                record: *const u8, record_len: usize, from: *const i32, from_len: usize,
+                to: *mut i32, to_len: usize, work: *mut i32, work_len: usize,
+            ) -> u32;
+            fn $write(
+                record: *const u8, record_len: usize, from: *const i32, from_len: usize,
+                to: *mut i32, to_len: usize, work: *mut i32, work_len: usize,
+            ) -> u32;
+        }
+    };
 }
 
-#[link(name = "squeeze", kind = "static")]
-extern "C" {
-    fn squeeze_rebuild(
-        record: *const u8, record_len: usize, from: *const i32, from_len: usize,
-        to: *mut i32, to_len: usize, work: *mut i32, work_len: usize,
-    ) -> u32;
-    fn squeeze_write(
-        record: *const u8, record_len: usize, from: *const i32, from_len: usize,
-        to: *mut i32, to_len: usize, work: *mut i32, work_len: usize,
-    ) -> u32;
-    fn squeeze_tile(
-        horizontal: u32, aw: usize, ah: usize, rw: usize, rh: usize, ow: usize, oh: usize,
-        avg: *const i32, avg_len: usize, res: *const i32, res_len: usize,
-        next: *const i32, next_len: usize, prev: *const i32, prev_len: usize,
-        out: *mut i32, out_len: usize,
-    ) -> u32;
-}
-
-fn samples(n: usize, seed: u64) -> Vec<i32> {
-    let mut s = seed | 1;
-    (0..n)
-        .map(|_| {
-            s ^= s << 13;
-            s ^= s >> 7;
-            s ^= s << 17;
-            (s >> 56) as i32 - 128
-        })
-        .collect()
-}
+archive!("before", before_tile, before_rebuild, before_write);
+archive!("squeeze", squeeze_tile, squeeze_rebuild, squeeze_write);
 
 /// A call's sides and slices, without outer lines.
 struct Call {

@@ -3,8 +3,10 @@
 //!
 //! usage: tile [SECONDS-PER-ROW]
 
+mod noise;
 mod plain;
 
+use noise::samples;
 use plain::unsqueeze;
 use std::time::Instant;
 
@@ -54,18 +56,6 @@ fn plain_vertical(avg: &[i32], res: &[i32], w: usize, m: usize, n: usize, out: &
             out[2 * n * w + x] = avg[n * w + x];
         }
     }
-}
-
-fn samples(n: usize, seed: u64) -> Vec<i32> {
-    let mut s = seed | 1;
-    (0..n)
-        .map(|_| {
-            s ^= s << 13;
-            s ^= s >> 7;
-            s ^= s << 17;
-            (s >> 56) as i32 - 128
-        })
-        .collect()
 }
 
 /// The least of several runs, in nanoseconds per output sample.
