@@ -1,5 +1,7 @@
 //! Makes the core's archive and links it. `SQUEEZE_ARCHIVE_DIR` may name a
 //! directory that holds a ready `libsqueeze.a`; then no toolchain is needed.
+//! `SQUEEZE_BEFORE_DIR` may name one with the archive of an earlier commit,
+//! `libbefore.a` (`bench/archive.sh` makes it), for the benchmark to time beside it.
 
 use std::env;
 use std::path::{Path, PathBuf};
@@ -15,6 +17,17 @@ fn main() {
     println!("cargo:rustc-env=SQUEEZE_ARCHIVE_USED={}", dir.display());
     println!("cargo:rustc-link-search=native={}", dir.display());
     println!("cargo:rustc-link-lib=static=squeeze");
+    link_before();
+}
+
+fn link_before() {
+    println!("cargo:rerun-if-env-changed=SQUEEZE_BEFORE_DIR");
+    println!("cargo:rustc-check-cfg=cfg(squeeze_before)");
+    if let Ok(dir) = env::var("SQUEEZE_BEFORE_DIR") {
+        println!("cargo:rustc-cfg=squeeze_before");
+        println!("cargo:rustc-link-search=native={dir}");
+        println!("cargo:rustc-link-lib=static=before");
+    }
 }
 
 fn ready_archive(dir: PathBuf) -> PathBuf {

@@ -1,6 +1,6 @@
 pub mod Entries
-pub mod Filled
-pub mod Fitted
+pub mod Puts
 pub mod Nexts
 pub mod Stretches
 pub mod Across
+pub mod Fitted

@@ -5,22 +5,21 @@ use mathlib.Core.Path.{_≡_, sym, _∙_}
 use mathlib.Core.Bool.{Bool, true}
 use mathlib.Core.List.{List, _++_}
 use mathlib.Core.Logic.{_⊎_, inl, inr}
-use Prim.Native.Nat.{ℕ, _+_, _-_, _*_, _/_, _<_, _≤_}
+use Prim.Native.Nat.{ℕ, _+_, _-_, _*_, _<_, _≤_}
 use native.Mathlib.Omega.{arith}
 use native.Mathlib.Nat.{mul-le-mul-right}
 use lib.IntN.{ℤ, pos}
-use lib.ListN.{length, getD, take, drop, length-drop}
+use lib.ListN.{length, getD, set, take, drop, length-drop}
 use lib.Seq.{getD-drop}
 use lib.Signed.{mag}
 use Rattle.arith32.specs.Arith.{Sample}
 use Rattle.pair.specs.Pair as P
-use Rattle.line.specs.Uncut.{place, table}
+use Rattle.line.specs.Uncut.{place}
 use Rattle.line.specs.Forward.{averageCount, residualCount, averageAt, nextAt, residualAt, lineIn}
 use Rattle.line.proofs.Lines.{lt-or-ge}
-use Rattle.line.proofs.Tables.{table-cong}
-use Rattle.forward.specs.Rows.{averageEntry, residualEntry, Reach, sampleOver, Read, averageOver, residualOver, firstOver}
-use Rattle.forward.proofs.Entries.{average-pair, next-inside, residual-pair, prev-first, prev-later, average-entry, residual-entry}
-use Rattle.forward.proofs.Filled.{Row, row-none, row-part}
+use Rattle.forward.specs.Rows.{averageEntry, residualEntry, joined, squeezedEntry, Put, Reach, sampleOver, Read, averageOver, residualOver, firstOver}
+use Rattle.forward.proofs.Entries.{average-pair, next-inside, residual-pair, prev-first, prev-later, average-entry, residual-entry, row-room, area}
+use Rattle.forward.proofs.Puts.{joined-low, joined-high, put-both, stretch-part}
 
 pub sample-over : (xs : List ℤ) (at step x j : ℕ) → at + x * step ≡ j → sampleOver (drop at xs) step x ≡ getD xs j (pos 0)
 sample-over xs at step x j e = getD-drop at xs (x * step) (pos 0) ∙ rw e
@@ -71,7 +70,7 @@ module _ (d : Bool) (lines size : ℕ) (xs : List ℤ) (k i step x : ℕ) where
       rw (sample-over xs a step x _ ea, sample-over xs b step x _ eb, sample-over xs p step x _ ep, sample-over xs q step x _ eq)
       (sym (residual-pair line size i ∙ rw (next, prev)))
 
--- ---- along line y: the pairs' averages fill the front of its row, and the residuals between the ends follow the first
+-- ---- along line y
 module _ (lines size : ℕ) (xs : List ℤ) (y : ℕ) where
   -- where sample j of it lies, and the samples from there on
   abbrev start : ℕ → ℕ
@@ -80,28 +79,12 @@ module _ (lines size : ℕ) (xs : List ℤ) (y : ℕ) where
   abbrev rest : ℕ → List ℤ
   rest j = drop (start j) xs
 
-  average-along : (x : ℕ) → x + x + 1 < size
-      → averageOver (rest 0) (rest 1) 2 x
-      ≡ averageEntry true lines size xs (y * averageCount size + x)
+  -- the pairs behind the first
+  average-along : (x : ℕ) → x + x + 3 < size
+      → averageOver (rest 2) (rest 3) 2 x ≡ averageEntry true lines size xs (y * averageCount size + (x + 1))
   average-along x h =
-      average-over true lines size xs y x 2 x (start 0) (start 1) (omega arith) (omega arith) h
-      ∙ average-entry true lines size xs y x (omega arith)
-
-  pub line-averages : (out part : List ℤ) → length out ≡ averageCount size
-      → part ≡ table (averageOver (rest 0) (rest 1) 2) 0 (size / 2)
-      → Row (averageEntry true lines size xs) (y * averageCount size) (averageCount size) (take 0 out ++ (part ++ drop (size / 2) (drop 0 out))) (size / 2)
-  line-averages out part e h =
-      let s : 0 + size / 2 ≡ size / 2 = omega arith in
-      rw s at
-      (row-part (averageEntry true lines size xs) (y * averageCount size) (averageCount size) out 0 (size / 2) part (omega arith)
-      (h
-      ∙ table-cong (averageOver (rest 0) (rest 1) 2) (averageEntry true lines size xs) 0 (y * averageCount size + 0)
-      (size / 2)
-      (λ x l.
-      let z : 0 + x ≡ x = omega arith in
-      let z′ : y * averageCount size + 0 + x ≡ y * averageCount size + x = omega arith in
-      rw (z, z′) (average-along x (omega arith))))
-      (row-none (averageEntry true lines size xs) (y * averageCount size) (averageCount size) out e))
+      average-over true lines size xs y (x + 1) 2 x (start 2) (start 3) (omega arith) (omega arith) (omega arith)
+      ∙ average-entry true lines size xs y (x + 1) (omega arith)
 
   residual-along : (x : ℕ) → x + x + 5 < size
       → residualOver (rest 1) (rest 2) (rest 3) (rest 4) (rest 5) 2 x
@@ -113,22 +96,51 @@ module _ (lines size : ℕ) (xs : List ℤ) (y : ℕ) where
       (next-inside line size (x + 1) (omega arith) ∙ average-pair line size (x + 1 + 1) (omega arith))
       ∙ residual-entry true lines size xs y (x + 1) (omega arith)
 
-  pub line-residuals : (n : ℕ) (out part : List ℤ) → n ≡ residualCount size → 3 ≤ n
-      → part ≡ table (residualOver (rest 1) (rest 2) (rest 3) (rest 4) (rest 5) 2) 0 (n - 1 - 1)
-      → Row (residualEntry true lines size xs) (y * residualCount size) (residualCount size) out 1
-      → Row (residualEntry true lines size xs) (y * residualCount size) (residualCount size) (take 1 out ++ (part ++ drop (n - 1 - 1) (drop 1 out))) (n - 1)
-  line-residuals n out part e m h r =
-      let s : 1 + (n - 1 - 1) ≡ n - 1 = omega arith in
-      rw s at
-      (row-part (residualEntry true lines size xs) (y * residualCount size) (residualCount size) out 1 (n - 1 - 1) part (omega arith)
-      (h
-      ∙ table-cong (residualOver (rest 1) (rest 2) (rest 3) (rest 4) (rest 5) 2)
-      (residualEntry true lines size xs) 0 (y * residualCount size + 1) (n - 1 - 1)
-      (λ x l.
-      let z : 0 + x ≡ x = omega arith in
-      let z′ : y * residualCount size + 1 + x ≡ y * residualCount size + (x + 1) = omega arith in
-      rw (z, z′) (residual-along x (omega arith))))
-      r)
+  -- its averages stand at `a` of the slice of both, its residuals at `r`
+  module _ (a r : ℕ) (h : y < lines) (ea : a ≡ y * averageCount size) (er : r ≡ lines * averageCount size + y * residualCount size) where
+    pub line-ends : (a + averageCount size ≤ lines * averageCount size) × (r + residualCount size ≤ lines * size)
+    line-ends = (
+      omega (arith, row-room y lines (averageCount size) h),
+      omega (arith, row-room y lines (residualCount size) h, area lines size),
+    )
+
+    pub line-average : (i j : ℕ) → i < averageCount size → j ≡ a + i
+        → averageAt (lineIn true lines size xs y) size i ≡ squeezedEntry true lines size xs j
+    line-average i j l ej =
+        let s : y * averageCount size + i ≡ j = omega arith in
+        average-entry true lines size xs y i l
+        ∙ rw s (sym (joined-low (averageEntry true lines size xs) (residualEntry true lines size xs) (lines * averageCount size) j (omega (arith, line-ends))))
+
+    pub line-residual : (i j : ℕ) → i < residualCount size → j ≡ r + i
+        → residualAt (lineIn true lines size xs y) size i ≡ squeezedEntry true lines size xs j
+    line-residual i j l ej =
+        residual-entry true lines size xs y i l
+        ∙ sym (joined-high (averageEntry true lines size xs) (residualEntry true lines size xs) (lines * averageCount size) (y * residualCount size + i) j (omega arith))
+
+    -- one pair more
+    pub pair-put : {old out : List ℤ} (i p q : ℕ) (v w : ℤ) → length old ≡ lines * size → i < residualCount size → p ≡ a + i → q ≡ r + i
+        → v ≡ averageAt (lineIn true lines size xs y) size i → w ≡ residualAt (lineIn true lines size xs y) size i
+        → Put (squeezedEntry true lines size xs) a i r i old out → Put (squeezedEntry true lines size xs) a (i + 1) r (i + 1) old (set (set out p v) q w)
+    pair-put i p q v w eo l ep eq ev ew put =
+        let ends = line-ends in
+        put-both (squeezedEntry true lines size xs) p q v w put ep eq (omega arith) (omega arith)
+        (ev ∙ line-average i p (omega arith) ep) (ew ∙ line-residual i q l eq)
+
+    -- what a stretch of n pairs behind the first puts there
+    pub line-put : (n k : ℕ) (old part : List ℤ) → n + 2 ≤ residualCount size → length old ≡ lines * size → a + 1 + k ≡ length old
+        → Put (joined (averageOver (rest 2) (rest 3) 2) (residualOver (rest 1) (rest 2) (rest 3) (rest 4) (rest 5) 2) (r - a)) 0 n (r - a) n
+        (take k (drop (a + 1) old)) part
+        → Put (squeezedEntry true lines size xs) (a + 1) n (r + 1) n old (take (a + 1) old ++ (part ++ drop k (drop (a + 1) old)))
+    line-put n k old part l eo ek p =
+        let ends = line-ends in
+        stretch-part (averageOver (rest 2) (rest 3) 2) (residualOver (rest 1) (rest 2) (rest 3) (rest 4) (rest 5) 2)
+        (averageEntry true lines size xs) (residualEntry true lines size xs) (r - a) n (lines * averageCount size) (a + 1) (y * residualCount size + 1)
+        k old part (omega arith) (omega arith) (omega arith) (omega arith) (omega arith) (omega arith)
+        (λ x g. let s : y * averageCount size + (x + 1) ≡ a + 1 + x = omega arith in rw s at (average-along x (omega arith)))
+        (λ x g.
+        let s : y * residualCount size + (x + 1) ≡ y * residualCount size + 1 + x = omega arith in
+        rw s at (residual-along x (omega arith)))
+        p
 
 -- ---- the slices begin inside, and reach far enough
 module _ (lines size : ℕ) (xs : List ℤ) (e : length xs ≡ lines * size) where

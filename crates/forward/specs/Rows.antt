@@ -1,8 +1,9 @@
--- The rows of a slice of averages or residuals, `count` in each of so many lines, and what stands at j of it (`averagesOf` and `residualsOf` of
--- crate line, entry by entry). Definitions only.
+-- What stands at j of the averages, of the residuals and of both in one slice (`averagesOf` and `residualsOf` of crate line, entry by entry), and
+-- what a part of the pass leaves of that slice (`Put`). Definitions only.
+use mathlib.Core.Path.{_≡_}
 use mathlib.Core.Bool.{Bool, cond}
 use mathlib.Core.List.{List}
-use Prim.Native.Nat.{ℕ, _+_, _*_, _<_}
+use Prim.Native.Nat.{ℕ, _+_, _-_, _*_, _<_, _≤_}
 use lib.Dec.{ltb}
 use lib.IntN.{ℤ, pos}
 use lib.ListN.{length, getD}
@@ -11,13 +12,7 @@ use Rattle.pair.specs.Pair.{average, residual}
 use Rattle.line.specs.Uncut.{lineAt, positionAt}
 use Rattle.line.specs.Forward.{averageCount, residualCount, averageAt, residualAt, lineIn}
 
--- the entries of a row, and the rows
-abbrev pub wide : Bool → ℕ → ℕ → ℕ
-wide horizontal lines count = cond horizontal count lines
-
-abbrev pub high : Bool → ℕ → ℕ → ℕ
-high horizontal lines count = cond horizontal lines count
-
+-- average and residual j of all lines
 unfoldable pub averageEntry : Bool → ℕ → ℕ → List ℤ → ℕ → ℤ
 averageEntry horizontal lines size xs j =
     averageAt (lineIn horizontal lines size xs (lineAt horizontal lines (averageCount size) j)) size
@@ -27,6 +22,22 @@ unfoldable pub residualEntry : Bool → ℕ → ℕ → List ℤ → ℕ → ℤ
 residualEntry horizontal lines size xs j =
     residualAt (lineIn horizontal lines size xs (lineAt horizontal lines (residualCount size) j)) size
     (positionAt horizontal lines (residualCount size) j)
+
+-- the entries of F up to place r, from there on those of G
+unfoldable pub joined : (ℕ → ℤ) → (ℕ → ℤ) → ℕ → ℕ → ℤ
+joined F G r j = cond (ltb j r) (F j) (G (j - r))
+
+-- the averages, then the residuals
+abbrev pub squeezedEntry : Bool → ℕ → ℕ → List ℤ → ℕ → ℤ
+squeezedEntry horizontal lines size xs =
+    joined (averageEntry horizontal lines size xs) (residualEntry horizontal lines size xs) (lines * averageCount size)
+
+-- ---- a slice before and after: m entries from `a` on and n from `r` on are those of f, the others are as they were
+pub record Put (f : ℕ → ℤ) (a m r n : ℕ) (old out : List ℤ) : Type 0 where
+  pub long : length out ≡ length old
+  pub low : (j : ℕ) → a ≤ j → j < a + m → getD out j (pos 0) ≡ f j
+  pub high : (j : ℕ) → r ≤ j → j < r + n → getD out j (pos 0) ≡ f j
+  pub kept : (j : ℕ) → (a ≤ j → a + m ≤ j) → (r ≤ j → r + n ≤ j) → getD out j (pos 0) ≡ getD old j (pos 0)
 
 -- ---- a stretch: entries of a row, made of the samples of a slice each, `step` from each other
 -- the slice has n of them

@@ -1,20 +1,21 @@
-// The writer's averages and residuals of a channel (document 01, "Whole runs"):
-// total, a call whose slices do not fit leaves the output as it was. The output
-// is written row by row, and a row is read along the rows of the samples that
-// its entries are made of, in either direction.
+// The writer's averages and residuals of a channel (document 01, "Whole runs"),
+// in one slice, the averages first: total, a call whose slices do not fit leaves
+// the output as it was. Both are written together and row by row, so that a sample
+// is read from memory once, along the rows of the samples that the entries are
+// made of, in either direction.
 ghost use mathlib.Core.Path.{_≡_};
 ghost use mathlib.Core.Bool.{true, false};
-ghost use Prim.Native.Nat.{_+_, _*_, _<_, _≤_};
+ghost use mathlib.Core.List.{_++_};
+ghost use Prim.Native.Nat.{_+_, _*_, _/_, _<_, _≤_};
 ghost use lib.ListN.{length, drop};
-ghost use Rattle.line.specs.Uncut.{place, table};
+ghost use Rattle.line.specs.Uncut.{place};
 ghost use Rattle.line.specs.Forward.{averageCount, residualCount, averageAt, nextAt, prevAt, residualAt, lineIn, averagesOf, residualsOf};
-ghost use Rattle.forward.specs.Into.{slicesFit, averagesInto, residualsInto};
-ghost use Rattle.forward.specs.Rows.{averageEntry, residualEntry, Reach, Read, averageOver, residualOver, firstOver, nextFirst, nextSecond};
+ghost use Rattle.forward.specs.Into.{slicesFit, squeezedInto};
+ghost use Rattle.forward.specs.Rows.{squeezedEntry, joined, Put, Reach, Read, averageOver, residualOver, firstOver, nextFirst, nextSecond};
 use numbers::MAX_SIDE;
 
-fn slices_fit(lines: usize, size: usize, count: usize, xs: &[i32], out: &[i32]) -> bool
-    requires { ⌜ count ≤ size ⌝ }
-    ensures { λ r. ⌜ r ≡ slicesFit lines size count (now (xs .entry)) (now (out .entry)) ⌝ }
+fn slices_fit(lines: usize, size: usize, xs: &[i32], out: &[i32]) -> bool
+    ensures { λ r. ⌜ r ≡ slicesFit lines size (now (xs .entry)) (now (out .entry)) ⌝ }
 {
     if MAX_SIDE < lines {
         return false;
@@ -22,7 +23,8 @@ fn slices_fit(lines: usize, size: usize, count: usize, xs: &[i32], out: &[i32]) 
     if MAX_SIDE < size {
         return false;
     }
-    (xs.len() == lines * size) & (out.len() == lines * count)
+    let samples = lines * size;
+    (xs.len() == samples) & (out.len() == samples)
 }
 
 // Sample i of line k of a horizontal squeeze, and what else stands at a single
@@ -107,47 +109,39 @@ fn samples_from<'a>(
     }
 }
 
-// A stretch is a run of entries of a row whose pairs lie inside their lines.
-// Its loop asks neither for the direction nor for a line's end, so that it can
-// become vector code. It takes a slice for each sample and not one slice and
-// places in it, which keeps it small enough to be compiled for each `step` by
-// itself; else the samples would be gathered one by one.
-fn average_stretch(first: &[i32], second: &[i32], step: usize, out: &mut [i32])
-    requires { ⌜ Reach (length (now out)) step (now first) × Reach (length (now out)) step (now second) ⌝ }
-    ensures { λ _. ⌜ now (out .exit) ≡ table (averageOver (now (first .entry)) (now (second .entry)) step) 0 (length (now (out .entry))) ⌝ }
-{
-    for x in 0..out.len() {
-        let i = x * step;
-        let pair = pair::squeeze(first[i], second[i]);
-        let average = pair.average;
-        out[x] = average;
-    }
-}
-
-// The same where a pair stands before each pair: `before` has the sample before
-// it, `third` and `fourth` the pair after it or what stands for that. Only what
-// was read is known to be 32-bit samples, hence the second fact of the contract,
-// which a caller needs that has a sample twice stand for a pair.
-fn residual_stretch(
+// A stretch is a run of `n` entries of a row whose pairs lie inside their lines
+// and have a pair before them: `before` has the sample before each pair, `third`
+// and `fourth` the pair after it or what stands for that. The averages go to the
+// front of `out`, the residuals to its place `r` and on. The loop asks neither for
+// the direction nor for a line's end, so that it can become vector code. It takes
+// a slice for each sample and not one slice and places in it, which keeps it
+// small enough to be compiled for each `step` by itself; else the samples would be
+// gathered one by one. Only what was read is known to be 32-bit samples, hence
+// the last fact of the contract, which a caller needs that has a sample twice
+// stand for a pair.
+fn squeeze_stretch(
     before: &[i32],
     first: &[i32],
     second: &[i32],
     third: &[i32],
     fourth: &[i32],
     step: usize,
+    n: usize,
+    r: usize,
     out: &mut [i32],
 )
-    requires { ⌜ Reach (length (now out)) step (now before) × Reach (length (now out)) step (now first) × Reach (length (now out)) step (now second) × Reach (length (now out)) step (now third) × Reach (length (now out)) step (now fourth) ⌝ }
-    ensures { λ _. ⌜ (now (out .exit) ≡ table (residualOver (now (before .entry)) (now (first .entry)) (now (second .entry)) (now (third .entry)) (now (fourth .entry)) step) 0 (length (now (out .entry)))) × Read (length (now (out .entry))) step (now (third .entry)) ⌝ }
+    requires { ⌜ Reach n step (now before) × Reach n step (now first) × Reach n step (now second) × Reach n step (now third) × Reach n step (now fourth) × (n ≤ r) × (r + n ≤ length (now out)) ⌝ }
+    ensures { λ _. ⌜ Put (joined (averageOver (now (first .entry)) (now (second .entry)) step) (residualOver (now (before .entry)) (now (first .entry)) (now (second .entry)) (now (third .entry)) (now (fourth .entry)) step) r) 0 n r n (now (out .entry)) (now (out .exit)) × Read n step (now (third .entry)) ⌝ }
 {
-    for x in 0..out.len() {
+    for x in 0..n {
         let i = x * step;
         let own = pair::squeeze(first[i], second[i]);
         let next = pair::squeeze(third[i], fourth[i]);
         let difference = own.difference;
         let average = own.average;
         let after = next.average;
-        out[x] = pair::residual_lane(difference, average, after, before[i]);
+        out[x] = average;
+        out[r + x] = pair::residual_lane(difference, average, after, before[i]);
     }
 }
 
@@ -158,96 +152,83 @@ fn first_stretch(
     third: &[i32],
     fourth: &[i32],
     step: usize,
+    n: usize,
+    r: usize,
     out: &mut [i32],
 )
-    requires { ⌜ Reach (length (now out)) step (now first) × Reach (length (now out)) step (now second) × Reach (length (now out)) step (now third) × Reach (length (now out)) step (now fourth) ⌝ }
-    ensures { λ _. ⌜ (now (out .exit) ≡ table (firstOver (now (first .entry)) (now (second .entry)) (now (third .entry)) (now (fourth .entry)) step) 0 (length (now (out .entry)))) × Read (length (now (out .entry))) step (now (third .entry)) ⌝ }
+    requires { ⌜ Reach n step (now first) × Reach n step (now second) × Reach n step (now third) × Reach n step (now fourth) × (n ≤ r) × (r + n ≤ length (now out)) ⌝ }
+    ensures { λ _. ⌜ Put (joined (averageOver (now (first .entry)) (now (second .entry)) step) (firstOver (now (first .entry)) (now (second .entry)) (now (third .entry)) (now (fourth .entry)) step) r) 0 n r n (now (out .entry)) (now (out .exit)) × Read n step (now (third .entry)) ⌝ }
 {
-    for x in 0..out.len() {
+    for x in 0..n {
         let i = x * step;
         let own = pair::squeeze(first[i], second[i]);
         let next = pair::squeeze(third[i], fourth[i]);
         let difference = own.difference;
         let average = own.average;
         let after = next.average;
-        out[x] = pair::residual_lane(difference, average, after, average);
+        out[x] = average;
+        out[r + x] = pair::residual_lane(difference, average, after, average);
     }
 }
 
-// The averages of line y of a horizontal squeeze, its tail last. An empty line
-// has no second place for a slice to begin at.
-fn average_line(lines: usize, size: usize, xs: &[i32], y: usize, out: &mut [i32])
-    requires { ⌜ (length (now xs) ≡ lines * size) × (y < lines) × (length (now out) ≡ averageCount size) ⌝ }
-    ensures { λ _. ⌜ now (out .exit) ≡ table (averageEntry true lines size (now (xs .entry))) (y * averageCount size) (averageCount size) ⌝ }
+// Line y of a horizontal squeeze, whose averages stand at `a` and whose residuals
+// at `r`: the first and the last pair stand at the line's ends, and its tail is
+// the last average.
+fn squeeze_line(
+    lines: usize,
+    size: usize,
+    xs: &[i32],
+    y: usize,
+    a: usize,
+    r: usize,
+    out: &mut [i32],
+)
+    requires { ⌜ (length (now xs) ≡ lines * size) × (length (now out) ≡ lines * size) × (y < lines) × (a ≡ y * averageCount size) × (r ≡ lines * averageCount size + y * residualCount size) ⌝ }
+    ensures { λ _. ⌜ Put (squeezedEntry true lines size (now (xs .entry))) a (averageCount size) r (residualCount size) (now (out .entry)) (now (out .exit)) ⌝ }
 {
-    if size == 0 {
-        return;
-    }
     let n = size / 2;
-    average_stretch(
-        samples_from(true, lines, size, xs, y, 0),
-        samples_from(true, lines, size, xs, y, 1),
-        2,
-        &mut out[0..n],
-    );
-    if n < out.len() {
-        out[n] = average_at(lines, size, xs, y, n);
-    }
-}
-
-// Its residuals, of which the first and the last stand at the line's ends.
-fn residual_line(lines: usize, size: usize, xs: &[i32], y: usize, out: &mut [i32])
-    requires { ⌜ (length (now xs) ≡ lines * size) × (y < lines) × (length (now out) ≡ residualCount size) ⌝ }
-    ensures { λ _. ⌜ now (out .exit) ≡ table (residualEntry true lines size (now (xs .entry))) (y * residualCount size) (residualCount size) ⌝ }
-{
-    let n = out.len();
-    if n == 0 {
-        return;
-    }
-    out[0] = residual_at(lines, size, xs, y, 0);
-    if n == 1 {
-        return;
+    if 0 < n {
+        out[a] = average_at(lines, size, xs, y, 0);
+        out[r] = residual_at(lines, size, xs, y, 0);
     }
     if 2 < n {
-        residual_stretch(
+        squeeze_stretch(
             samples_from(true, lines, size, xs, y, 1),
             samples_from(true, lines, size, xs, y, 2),
             samples_from(true, lines, size, xs, y, 3),
             samples_from(true, lines, size, xs, y, 4),
             samples_from(true, lines, size, xs, y, 5),
             2,
-            &mut out[1..n - 1],
+            n - 2,
+            r - a,
+            &mut out[a + 1..],
         );
     }
-    out[n - 1] = residual_at(lines, size, xs, y, n - 1);
+    if 1 < n {
+        out[a + n - 1] = average_at(lines, size, xs, y, n - 1);
+        out[r + n - 1] = residual_at(lines, size, xs, y, n - 1);
+    }
+    if n + n < size {
+        out[a + n] = average_at(lines, size, xs, y, n);
+    }
 }
 
-// The averages of pair y of all lines of a vertical squeeze.
-fn average_pairs(lines: usize, size: usize, xs: &[i32], y: usize, out: &mut [i32])
-    requires { ⌜ (length (now xs) ≡ lines * size) × (y + y + 1 < size) × (length (now out) ≡ lines) ⌝ }
-    ensures { λ _. ⌜ now (out .exit) ≡ table (averageEntry false lines size (now (xs .entry))) (y * lines) lines ⌝ }
+// Pair y of all lines of a vertical squeeze, where it is neither the first nor
+// the last; the residuals of a pair stand `r` behind its averages.
+fn squeeze_pairs(lines: usize, size: usize, xs: &[i32], y: usize, r: usize, out: &mut [i32])
+    requires { ⌜ (length (now xs) ≡ lines * size) × (length (now out) ≡ lines * size) × (r ≡ lines * averageCount size) × (0 < y) × (y + y + 3 < size) ⌝ }
+    ensures { λ _. ⌜ Put (squeezedEntry false lines size (now (xs .entry))) (y * lines) lines (r + y * lines) lines (now (out .entry)) (now (out .exit)) ⌝ }
 {
-    average_stretch(
-        samples_from(false, lines, size, xs, 0, y + y),
-        samples_from(false, lines, size, xs, 0, y + y + 1),
-        1,
-        out,
-    );
-}
-
-// Their residuals, where pair y is neither the first nor the last.
-fn residual_pairs(lines: usize, size: usize, xs: &[i32], y: usize, out: &mut [i32])
-    requires { ⌜ (length (now xs) ≡ lines * size) × (0 < y) × (y + y + 3 < size) × (length (now out) ≡ lines) ⌝ }
-    ensures { λ _. ⌜ now (out .exit) ≡ table (residualEntry false lines size (now (xs .entry))) (y * lines) lines ⌝ }
-{
-    residual_stretch(
+    squeeze_stretch(
         samples_from(false, lines, size, xs, 0, y + y - 1),
         samples_from(false, lines, size, xs, 0, y + y),
         samples_from(false, lines, size, xs, 0, y + y + 1),
         samples_from(false, lines, size, xs, 0, y + y + 2),
         samples_from(false, lines, size, xs, 0, y + y + 3),
         1,
-        out,
+        lines,
+        r,
+        &mut out[y * lines..],
     );
 }
 
@@ -270,10 +251,10 @@ fn next_second(size: usize, first: usize) -> usize
     if first + 1 < size { first + 1 } else { first }
 }
 
-// The residuals of the first pair of all lines.
-fn first_pairs(lines: usize, size: usize, xs: &[i32], out: &mut [i32])
-    requires { ⌜ (length (now xs) ≡ lines * size) × (1 < size) × (length (now out) ≡ lines) ⌝ }
-    ensures { λ _. ⌜ now (out .exit) ≡ table (residualEntry false lines size (now (xs .entry))) 0 lines ⌝ }
+// The first pair of all lines.
+fn first_pairs(lines: usize, size: usize, xs: &[i32], r: usize, out: &mut [i32])
+    requires { ⌜ (length (now xs) ≡ lines * size) × (length (now out) ≡ lines * size) × (r ≡ lines * averageCount size) × (1 < size) ⌝ }
+    ensures { λ _. ⌜ Put (squeezedEntry false lines size (now (xs .entry))) 0 lines r lines (now (out .entry)) (now (out .exit)) ⌝ }
 {
     let third = next_first(size, 0);
     let fourth = next_second(size, third);
@@ -283,119 +264,95 @@ fn first_pairs(lines: usize, size: usize, xs: &[i32], out: &mut [i32])
         samples_from(false, lines, size, xs, 0, third),
         samples_from(false, lines, size, xs, 0, fourth),
         1,
+        lines,
+        r,
         out,
     );
 }
 
-// Those of pair `last`, which is not the first.
-fn last_pairs(lines: usize, size: usize, xs: &[i32], last: usize, out: &mut [i32])
-    requires { ⌜ (length (now xs) ≡ lines * size) × (0 < last) × (last + last + 1 < size) × (length (now out) ≡ lines) ⌝ }
-    ensures { λ _. ⌜ now (out .exit) ≡ table (residualEntry false lines size (now (xs .entry))) (last * lines) lines ⌝ }
+// Pair `last`, which is not the first.
+fn last_pairs(lines: usize, size: usize, xs: &[i32], last: usize, r: usize, out: &mut [i32])
+    requires { ⌜ (length (now xs) ≡ lines * size) × (length (now out) ≡ lines * size) × (r ≡ lines * averageCount size) × (0 < last) × (last + last + 1 < size) ⌝ }
+    ensures { λ _. ⌜ Put (squeezedEntry false lines size (now (xs .entry))) (last * lines) lines (r + last * lines) lines (now (out .entry)) (now (out .exit)) ⌝ }
 {
     let third = next_first(size, last);
     let fourth = next_second(size, third);
-    residual_stretch(
+    squeeze_stretch(
         samples_from(false, lines, size, xs, 0, last + last - 1),
         samples_from(false, lines, size, xs, 0, last + last),
         samples_from(false, lines, size, xs, 0, last + last + 1),
         samples_from(false, lines, size, xs, 0, third),
         samples_from(false, lines, size, xs, 0, fourth),
         1,
-        out,
+        lines,
+        r,
+        &mut out[last * lines..],
     );
 }
 
-fn averages_along(lines: usize, size: usize, xs: &[i32], out: &mut [i32])
-    requires { ⌜ (length (now xs) ≡ lines * size) × (length (now out) ≡ lines * averageCount size) ⌝ }
-    ensures { λ _. ⌜ now (out .exit) ≡ averagesOf true lines size (now (xs .entry)) ⌝ }
+fn squeeze_along(lines: usize, size: usize, xs: &[i32], out: &mut [i32])
+    requires { ⌜ (length (now xs) ≡ lines * size) × (length (now out) ≡ lines * size) ⌝ }
+    ensures { λ _. ⌜ now (out .exit) ≡ averagesOf true lines size (now (xs .entry)) ++ residualsOf true lines size (now (xs .entry)) ⌝ }
 {
-    let count = size - size / 2;
+    let rest = size / 2;
+    let count = size - rest;
+    let averages = lines * count;
     for y in 0..lines {
-        average_line(lines, size, xs, y, &mut out[y * count..y * count + count]);
+        squeeze_line(lines, size, xs, y, y * count, averages + y * rest, out);
     }
 }
 
-fn residuals_along(lines: usize, size: usize, xs: &[i32], out: &mut [i32])
-    requires { ⌜ (length (now xs) ≡ lines * size) × (length (now out) ≡ lines * residualCount size) ⌝ }
-    ensures { λ _. ⌜ now (out .exit) ≡ residualsOf true lines size (now (xs .entry)) ⌝ }
-{
-    let count = size / 2;
-    for y in 0..lines {
-        residual_line(lines, size, xs, y, &mut out[y * count..y * count + count]);
-    }
-}
-
-// The rows of pairs, then the row of tails, which the loop is not to ask for:
-// before the first turn the compiler has it tested once that all that is read
-// lies apart from all that is written, and takes every turn to read two rows,
-// one past the samples where the last would be a tail.
-fn averages_across(lines: usize, size: usize, xs: &[i32], out: &mut [i32])
-    requires { ⌜ (length (now xs) ≡ lines * size) × (length (now out) ≡ lines * averageCount size) ⌝ }
-    ensures { λ _. ⌜ now (out .exit) ≡ averagesOf false lines size (now (xs .entry)) ⌝ }
-{
-    let n = size / 2;
-    for y in 0..n {
-        average_pairs(lines, size, xs, y, &mut out[y * lines..y * lines + lines]);
-    }
-    if n + n < size {
-        buffer::copy(
-            samples_from(false, lines, size, xs, 0, n + n),
-            &mut out[n * lines..n * lines + lines],
-        );
-    }
-}
-
-// The first and the last row stand at the lines' ends, and are left out of the
-// loop for the same reason.
-fn residuals_across(lines: usize, size: usize, xs: &[i32], out: &mut [i32])
-    requires { ⌜ (length (now xs) ≡ lines * size) × (length (now out) ≡ lines * residualCount size) ⌝ }
-    ensures { λ _. ⌜ now (out .exit) ≡ residualsOf false lines size (now (xs .entry)) ⌝ }
+// The rows of pairs. The first and the last stand at the lines' ends and are left
+// out of the loop: before the first turn the compiler has it tested once that all
+// that is read lies apart from all that is written, and takes every turn to read
+// as many rows.
+fn pairs_across(lines: usize, size: usize, xs: &[i32], r: usize, out: &mut [i32])
+    requires { ⌜ (length (now xs) ≡ lines * size) × (length (now out) ≡ lines * size) × (r ≡ lines * averageCount size) ⌝ }
+    ensures { λ _. ⌜ Put (squeezedEntry false lines size (now (xs .entry))) 0 (size / 2 * lines) r (size / 2 * lines) (now (out .entry)) (now (out .exit)) ⌝ }
 {
     let n = size / 2;
     if n == 0 {
         return;
     }
-    first_pairs(lines, size, xs, &mut out[0..lines]);
+    first_pairs(lines, size, xs, r, out);
     if n == 1 {
         return;
     }
     let last = n - 1;
     for y in 1..last {
-        residual_pairs(lines, size, xs, y, &mut out[y * lines..y * lines + lines]);
+        squeeze_pairs(lines, size, xs, y, r, out);
     }
-    last_pairs(
-        lines,
-        size,
-        xs,
-        last,
-        &mut out[last * lines..last * lines + lines],
-    );
+    last_pairs(lines, size, xs, last, r, out);
 }
 
-// The averages of so many lines of `size` samples each: along the rows of a
-// slice where the squeeze is horizontal, down its columns where it is vertical.
-pub fn average_lines(horizontal: bool, lines: usize, size: usize, xs: &[i32], out: &mut [i32])
-    ensures { λ _. ⌜ now (out .exit) ≡ averagesInto horizontal lines size (now (xs .entry)) (now (out .entry)) ⌝ }
+// The rows of pairs, then the row of tails.
+fn squeeze_across(lines: usize, size: usize, xs: &[i32], out: &mut [i32])
+    requires { ⌜ (length (now xs) ≡ lines * size) × (length (now out) ≡ lines * size) ⌝ }
+    ensures { λ _. ⌜ now (out .exit) ≡ averagesOf false lines size (now (xs .entry)) ++ residualsOf false lines size (now (xs .entry)) ⌝ }
 {
-    if !slices_fit(lines, size, size - size / 2, xs, out) {
-        return;
-    }
-    if horizontal {
-        averages_along(lines, size, xs, out);
-    } else {
-        averages_across(lines, size, xs, out);
+    let n = size / 2;
+    let r = lines * (size - n);
+    pairs_across(lines, size, xs, r, out);
+    if n + n < size {
+        buffer::copy(
+            samples_from(false, lines, size, xs, 0, n + n),
+            &mut out[n * lines..r],
+        );
     }
 }
 
-pub fn residual_lines(horizontal: bool, lines: usize, size: usize, xs: &[i32], out: &mut [i32])
-    ensures { λ _. ⌜ now (out .exit) ≡ residualsInto horizontal lines size (now (xs .entry)) (now (out .entry)) ⌝ }
+// The averages, then the residuals, of so many lines of `size` samples each: along
+// the rows of a slice where the squeeze is horizontal, down its columns where it
+// is vertical.
+pub fn squeeze_lines(horizontal: bool, lines: usize, size: usize, xs: &[i32], out: &mut [i32])
+    ensures { λ _. ⌜ now (out .exit) ≡ squeezedInto horizontal lines size (now (xs .entry)) (now (out .entry)) ⌝ }
 {
-    if !slices_fit(lines, size, size / 2, xs, out) {
+    if !slices_fit(lines, size, xs, out) {
         return;
     }
     if horizontal {
-        residuals_along(lines, size, xs, out);
+        squeeze_along(lines, size, xs, out);
     } else {
-        residuals_across(lines, size, xs, out);
+        squeeze_across(lines, size, xs, out);
     }
 }

@@ -1,6 +1,6 @@
 -- The channels that flat arrays hold: how many, each of them, and a step's range of them. Assumes nothing.
 use mathlib.Core.Path.{_≡_, sym, ap, _∙_}
-use mathlib.Core.Bool.{true, and-eq-true-iff}
+use mathlib.Core.Bool.{Bool, true, and-eq-true-iff}
 use mathlib.Core.List.{List}
 use Prim.Native.Nat.{ℕ, _+_, _-_, _<_, _≤_, min}
 use native.Mathlib.Omega.{arith}
@@ -8,6 +8,7 @@ use lib.Dec.{leb}
 use lib.ListN.{length, take}
 use borrow.Author.Tests.{leb-true}
 use Rattle.channel.specs.declared.Channel.{Channel}
+use Rattle.channel.specs.Channel.{isMeta}
 use Rattle.list.specs.declared.ChannelList.{ChannelList}
 use Rattle.list.specs.declared.Step.{Step}
 use Rattle.list.specs.Tables.{table}
@@ -44,6 +45,14 @@ module _ (l : ChannelList) where
       let n = channels-length in
       let z : 0 + k ≡ k = omega arith in
       sym (table-at (channelAt l) 0 (min (l .count) maxChannels) k _ (omega arith) ∙ ap (channelAt l) z)
+
+  -- the channel c that was found at k, and whether it is meta
+  module _ (k : ℕ) (c : Channel) (h : k < length (channels l)) (e : c ≡ channelAt l k) where
+    pub found-at : c ≡ channelOf (channels l) k
+    found-at = e ∙ channels-at k h
+
+    pub kind-at : (meta : Bool) → meta ≡ isMeta c → meta ≡ isMeta (channelOf (channels l) k)
+    kind-at meta em = em ∙ ap isMeta found-at
 
   -- a step's range: of any step, as far as the list has it
   pub channels-within : (s : Step) (end : ℕ) → end ≡ min (s .begin + s .number) (min (l .count) maxChannels)

@@ -5,6 +5,7 @@ pub mod Asking
 pub mod Shifts
 pub mod Parts
 pub mod Entries
+pub mod Made
 pub mod Filled
 pub mod Packed
 pub mod Acceptance

@@ -1,4 +1,5 @@
 pub mod Tables
 pub mod Lists
 pub mod Questions
+pub mod Entries
 pub mod Accepted

@@ -3,13 +3,13 @@
 use mathlib.Core.Bool.{Bool, cond}
 use mathlib.Core.List.{List, [], _∷_, _++_}
 use Prim.Native.Nat.{ℕ, _+_, _-_, _/_, min}
-use lib.Dec.{leb, ltb}
+use lib.Dec.{ltb}
 use lib.ListN.{length, take, drop, getD, set}
 use Rattle.channel.specs.declared.Channel.{Channel}
 use Rattle.channel.specs.Channel.{isMeta, samples}
 use Rattle.list.specs.declared.ChannelList.{ChannelList}
 use Rattle.list.specs.declared.Step.{Step}
-use Rattle.list.specs.Tables.{table, padded, map, all}
+use Rattle.list.specs.Tables.{table, padded, map}
 
 -- "The list carries its own limits, 256 channels and 64 steps"
 abbrev pub maxChannels : ℕ
@@ -19,10 +19,13 @@ abbrev pub maxSteps : ℕ
 maxSteps = 64
 
 -- ---- flat arrays
--- entry k of the arrays
+-- entry k of the arrays, zeros past them
+abbrev pub entryOf : List ℕ → List ℕ → List ℕ → List ℕ → ℕ → Channel
+entryOf widths heights hshifts vshifts k =
+    record { width = getD widths k 0; height = getD heights k 0; hshift = getD hshifts k 0; vshift = getD vshifts k 0 }
+
 abbrev pub channelAt : ChannelList → ℕ → Channel
-channelAt l k =
-    record { width = getD (l .widths) k 0; height = getD (l .heights) k 0; hshift = getD (l .hshifts) k 0; vshift = getD (l .vshifts) k 0 }
+channelAt l k = entryOf (l .widths) (l .heights) (l .hshifts) (l .vshifts) k
 
 -- the channels that are meant: the first `count`; nothing else of the arrays is
 unfoldable pub channels : ChannelList → List Channel
@@ -96,13 +99,6 @@ stepped s cs =
     ++ cond (s .inplace)
     (map (residual (s .horizontal)) (range s cs) ++ after s cs)
     (after s cs ++ map (residual (s .horizontal)) (range s cs)))
-
--- a channel with at most one sample along the step's lines leaves a residual without a sample; a step moves nothing where all of its range do
-unfoldable pub isStill : Bool → Channel → Bool
-isStill horizontal c = leb (cond horizontal (c .width) (c .height)) 1
-
-unfoldable pub still : Step → List Channel → Bool
-still s cs = all (isStill (s .horizontal)) (range s cs)
 
 -- ---- "all samples of the list"
 abbrev pub total : List Channel → ℕ

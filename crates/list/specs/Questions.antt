@@ -94,3 +94,10 @@ taken s l =
     cond (eqb (stepAnswer s l) 0)
     (record { answer = 0; list = packed (stepped s (channels l)) })
     (record { answer = stepAnswer s l; list = l })
+
+-- questions 7 to 11 alone
+unfoldable pub takenOn : Step → ChannelList → Stepped
+takenOn s l =
+    cond (eqb (judgeStep s (channels l)) 0)
+    (record { answer = 0; list = packed (stepped s (channels l)) })
+    (record { answer = judgeStep s (channels l); list = l })

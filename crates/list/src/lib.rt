@@ -7,11 +7,12 @@ ghost use mathlib.Core.Path.{_≡_};
 ghost use mathlib.Core.Bool.{true, false, cond};
 ghost use mathlib.Core.List.{[]};
 ghost use Prim.Native.Nat.{_+_, _<_, min};
-ghost use lib.ListN.{length, take};
+ghost use lib.ListN.{take, getD};
 ghost use Rattle.channel.specs.Channel.{metaShift, isMeta};
 ghost use Rattle.list.specs.Tables.{all};
 ghost use Rattle.list.specs.Lists as Lists;
 ghost use Rattle.list.specs.Questions as Questions;
+ghost use Rattle.list.specs.Entries as Entries;
 ghost use Rattle.list.specs.Accepted.{StepAccepted};
 use channel::Channel;
 use numbers::REFUSED_COUNT;
@@ -64,13 +65,6 @@ fn with_side(c: Channel, horizontal: bool, side: u16) -> Channel
         sided.height = side;
     }
     sided
-}
-
-// Whether the channel's residual holds no sample.
-fn is_still(c: Channel, horizontal: bool) -> bool
-    ensures { λ r. ⌜ r ≡ Lists.isStill horizontal c ⌝ }
-{
-    side(c, horizontal) <= 1
 }
 
 // Question 10, of one channel.
@@ -138,6 +132,78 @@ fn residual(c: Channel, horizontal: bool) -> Channel
     raised(with_side(c, horizontal, rest), horizontal)
 }
 
+// Whether `k` is one of `number` indices from `start` on.
+fn is_inside(start: usize, number: usize, k: usize) -> bool
+    ensures { λ r. ⌜ r ≡ Entries.isInside start number k ⌝ }
+{
+    if k < start {
+        return false;
+    }
+    k - start < number
+}
+
+// The index of the channel that entry `k` of the list that a step leaves is made
+// of, where its residuals start at `residuals`.
+fn source(step: Step, residuals: usize, k: usize) -> usize
+    ensures { λ r. ⌜ r ≡ Entries.source step residuals k ⌝ }
+{
+    let number = step.number as usize;
+    if k < residuals {
+        return k;
+    }
+    if k - residuals < number {
+        return k - residuals + step.begin as usize;
+    }
+    k - number
+}
+
+// Entry `k` of the list that a step leaves, made of the channel `c`.
+fn entry(c: Channel, step: Step, residuals: usize, k: usize) -> Channel
+    requires { ⌜ Entries.entryAllowed step residuals k c ≡ true ⌝ }
+    ensures { λ r. ⌜ r ≡ Entries.entry step residuals k c ⌝ }
+{
+    let number = step.number as usize;
+    if is_inside(step.begin as usize, number, k) {
+        return average(c, step.horizontal);
+    }
+    if is_inside(residuals, number, k) {
+        return residual(c, step.horizontal);
+    }
+    c
+}
+
+// Entry `k` of an array of sides, 0 past it.
+fn side_at(sides: &[u16], k: usize) -> u16
+    ensures { λ r. ⌜ r ≡ getD (now (sides .entry)) k 0 ⌝ }
+{
+    if k < sides.len() { sides[k] } else { 0 }
+}
+
+// Entry `k` of an array of shifts, 0 past it.
+fn shift_at(shifts: &[u8], k: usize) -> u8
+    ensures { λ r. ⌜ r ≡ getD (now (shifts .entry)) k 0 ⌝ }
+{
+    if k < shifts.len() { shifts[k] } else { 0 }
+}
+
+// Entry `k` of flat arrays, zeros past them.
+pub fn entry_of<'a>(
+    widths: &'a [u16; 256],
+    heights: &'a [u16; 256],
+    hshifts: &'a [u8; 256],
+    vshifts: &'a [u8; 256],
+    k: usize,
+) -> Channel
+    ensures { λ r. ⌜ r ≡ Lists.entryOf (now (widths .entry)) (now (heights .entry)) (now (hshifts .entry)) (now (vshifts .entry)) k ⌝ }
+{
+    Channel {
+        width: side_at(widths, k),
+        height: side_at(heights, k),
+        hshift: shift_at(hshifts, k),
+        vshift: shift_at(vshifts, k),
+    }
+}
+
 // A channel as entry `k` of flat arrays; past them nothing is stored.
 pub fn store(
     c: Channel,
@@ -185,21 +251,7 @@ impl ChannelList {
     pub fn channel(self, k: usize) -> Channel
         ensures { λ r. ⌜ r ≡ Lists.channelAt self k ⌝ }
     {
-        if k < ChannelList::MAX_CHANNELS {
-            Channel {
-                width: self.widths[k],
-                height: self.heights[k],
-                hshift: self.hshifts[k],
-                vshift: self.vshifts[k],
-            }
-        } else {
-            Channel {
-                width: 0,
-                height: 0,
-                hshift: 0,
-                vshift: 0,
-            }
-        }
+        entry_of(&self.widths, &self.heights, &self.hshifts, &self.vshifts, k)
     }
 
     // How many channels are meant.
@@ -220,7 +272,7 @@ impl ChannelList {
         let count = self.len();
         let mut plain = false; // the channel before is not meta
         for k in 0..count {
-            let c = self.channel(k);
+            let c = entry_of(&self.widths, &self.heights, &self.hshifts, &self.vshifts, k);
             let meta = c.is_meta();
             if !c.has_shifts_allowed() | (plain & meta) {
                 return false;
@@ -245,7 +297,8 @@ impl ChannelList {
         let end = self.within(n);
         let mut sum = 0u64;
         for k in 0..end {
-            sum += self.channel(k).samples();
+            let c = entry_of(&self.widths, &self.heights, &self.hshifts, &self.vshifts, k);
+            sum += c.samples();
         }
         sum as usize
     }
@@ -287,9 +340,11 @@ impl ChannelList {
         requires { ⌜ Questions.rangeAllowed step (Lists.channels self) ≡ true ⌝ }
         ensures { λ r. ⌜ r ≡ Questions.kindsAlike step (Lists.channels self) ⌝ }
     {
-        let begin = step.begin as usize;
-        let last = begin + step.number as usize - 1;
-        self.channel(begin).is_meta() == self.channel(last).is_meta()
+        let k = step.begin as usize;
+        let m = k + step.number as usize - 1;
+        let first = entry_of(&self.widths, &self.heights, &self.hshifts, &self.vshifts, k);
+        let last = entry_of(&self.widths, &self.heights, &self.hshifts, &self.vshifts, m);
+        first.is_meta() == last.is_meta()
     }
 
     // Question 9.
@@ -297,7 +352,9 @@ impl ChannelList {
         requires { ⌜ Questions.rangeAllowed step (Lists.channels self) ≡ true ⌝ }
         ensures { λ r. ⌜ r ≡ Questions.placeAllowed step (Lists.channels self) ⌝ }
     {
-        !self.channel(step.begin as usize).is_meta() | step.inplace
+        let k = step.begin as usize;
+        let first = entry_of(&self.widths, &self.heights, &self.hshifts, &self.vshifts, k);
+        !first.is_meta() | step.inplace
     }
 
     // Question 10.
@@ -308,7 +365,8 @@ impl ChannelList {
         let begin = step.begin as usize;
         let end = begin + step.number as usize;
         for k in begin..end {
-            if !has_sides(self.channel(k)) {
+            let c = entry_of(&self.widths, &self.heights, &self.hshifts, &self.vshifts, k);
+            if !has_sides(c) {
                 return false;
             }
         }
@@ -323,7 +381,8 @@ impl ChannelList {
         let begin = step.begin as usize;
         let end = begin + step.number as usize;
         for k in begin..end {
-            if !keeps_shifts(self.channel(k), step.horizontal) {
+            let c = entry_of(&self.widths, &self.heights, &self.hshifts, &self.vshifts, k);
+            if !keeps_shifts(c, step.horizontal) {
                 return false;
             }
         }
@@ -372,21 +431,6 @@ impl ChannelList {
         self.judge_step(step)
     }
 
-    // Whether a step leaves each sample where it is: none of its residuals holds
-    // one.
-    pub fn stays(self, step: Step) -> bool
-        ensures { λ r. ⌜ r ≡ Lists.still step (Lists.channels self) ⌝ }
-    {
-        let begin = step.begin as usize;
-        let end = self.within(begin + step.number as usize);
-        for k in begin..end {
-            if !is_still(self.channel(k), step.horizontal) {
-                return false;
-            }
-        }
-        true
-    }
-
     // Where the residuals start in the list that a step leaves.
     fn residuals_at(self, step: Step) -> usize
         ensures { λ r. ⌜ r ≡ cond (step .inplace) (step .begin + step .number) (min (self .count) Lists.maxChannels) ⌝ }
@@ -398,41 +442,21 @@ impl ChannelList {
         }
     }
 
-    // Channel `k` of the list that a step leaves.
-    fn entry(self, step: Step, k: usize) -> Channel
-        requires { ⌜ StepAccepted step (Lists.channels self) × (k < length (Lists.channels self) + step .number) ⌝ }
-        ensures { λ r. ⌜ r ≡ Questions.channelOf (Lists.stepped step (Lists.channels self)) k ⌝ }
-    {
-        let begin = step.begin as usize;
-        let number = step.number as usize;
-        if k < begin {
-            return self.channel(k);
-        }
-        if k < begin + number {
-            return average(self.channel(k), step.horizontal);
-        }
-        let residuals = self.residuals_at(step);
-        if k < residuals {
-            return self.channel(k);
-        }
-        if k < residuals + number {
-            return residual(self.channel(k - residuals + begin), step.horizontal);
-        }
-        self.channel(k - number)
-    }
-
     // The list that a step leaves.
     fn stepped(self, step: Step) -> ChannelList
         requires { ⌜ StepAccepted step (Lists.channels self) ⌝ }
         ensures { λ r. ⌜ r ≡ Lists.packed (Lists.stepped step (Lists.channels self)) ⌝ }
     {
         let count = self.len() + step.number as usize;
+        let residuals = self.residuals_at(step);
         let mut widths = [0u16; 256];
         let mut heights = [0u16; 256];
         let mut hshifts = [0u8; 256];
         let mut vshifts = [0u8; 256];
         for k in 0..count {
-            let c = self.entry(step, k);
+            let j = source(step, residuals, k);
+            let from = entry_of(&self.widths, &self.heights, &self.hshifts, &self.vshifts, j);
+            let c = entry(from, step, residuals, k);
             store(c, k, &mut widths, &mut heights, &mut hshifts, &mut vshifts);
         }
         ChannelList {
@@ -444,11 +468,12 @@ impl ChannelList {
         }
     }
 
-    // The next list, or the refusal's number beside the list as it came.
-    pub fn step(self, step: Step) -> Stepped
-        ensures { λ r. ⌜ r ≡ Questions.taken step self ⌝ }
+    // The next list, or the refusal's number beside the list as it came, by
+    // questions 7 to 11 alone: for a list that passed questions 3 to 5.
+    pub fn step_on(self, step: Step) -> Stepped
+        ensures { λ r. ⌜ r ≡ Questions.takenOn step self ⌝ }
     {
-        let answer = self.check_squeeze_params(step);
+        let answer = self.judge_step(step);
         if answer != 0 {
             return Stepped { answer, list: self };
         }
@@ -456,5 +481,16 @@ impl ChannelList {
             answer: 0,
             list: self.stepped(step),
         }
+    }
+
+    // The next list, or the refusal's number beside the list as it came.
+    pub fn step(self, step: Step) -> Stepped
+        ensures { λ r. ⌜ r ≡ Questions.taken step self ⌝ }
+    {
+        let answer = self.judge();
+        if answer != 0 {
+            return Stepped { answer, list: self };
+        }
+        self.step_on(step)
     }
 }

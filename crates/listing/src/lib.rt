@@ -13,6 +13,7 @@ ghost use Rattle.listing.specs.Listing as Spec;
 use channel::Channel;
 use list::ChannelList;
 use list::Step;
+use list::entry_of;
 use numbers::REFUSED_LENGTH;
 use plan::Steps;
 
@@ -187,7 +188,8 @@ fn put_channels(list: ChannelList, at: usize, text: &mut [u8]) -> usize
     let count = list.count;
     let mut end = at;
     for k in 0..count {
-        end = put_channel(list.channel(k), end, text);
+        let c = entry_of(&list.widths, &list.heights, &list.hshifts, &list.vshifts, k);
+        end = put_channel(c, end, text);
     }
     end
 }

@@ -1,12 +1,10 @@
 -- A run over flat arrays (`ran` of specs/Plans.antt): before each step the list that is reached and the steps that are left give the whole run.
 -- Assumes nothing.
-use mathlib.Core.Bool.{Bool, true, false}
-use mathlib.Core.Path.{_≡_, refl, sym, ap, _∙_}
+use mathlib.Core.Path.{_≡_, sym, ap, _∙_}
 use mathlib.Core.List.{List, _∷_}
 use Prim.Native.Nat.{ℕ, _+_, _-_, _<_, _≤_, min}
 use native.Mathlib.Omega.{arith}
-use lib.Dec.{eqb}
-use borrow.Author.Tests.{ne-eqb, eqb-true, eqb-false}
+use borrow.Author.Tests.{ne-eqb}
 use Rattle.channel.specs.declared.Channel.{Channel}
 use Rattle.list.specs.declared.ChannelList.{ChannelList}
 use Rattle.list.specs.declared.Step.{Step}
@@ -14,26 +12,16 @@ use Rattle.list.specs.declared.Stepped.{Stepped}
 use Rattle.list.specs.Tables.{table}
 use Rattle.list.specs.Lists as Lists
 use Rattle.list.specs.Lists.{maxSteps, channels, packed}
-use Rattle.list.specs.Questions.{judgeList, judgeStep, taken}
+use Rattle.list.specs.Questions.{judgeList, judgeStep, takenOn}
 use Rattle.list.specs.Accepted.{Accepted}
 use Rattle.list.proofs.Tables.{table-rest, table-none}
 use Rattle.list.proofs.Packed.{channels-packed}
-use Rattle.list.proofs.Acceptance.{list-accepted, packed-accepted, step-accepted}
+use Rattle.list.proofs.Acceptance.{list-accepted, step-accepted}
 use Rattle.list.proofs.Kept.{stepped-allowed}
-use Rattle.list.proofs.Taken.{step-refused, step-taken}
+use Rattle.list.proofs.Taken.{on-answer, on-taken}
 use Rattle.plan.specs.declared.Steps.{Steps}
 use Rattle.plan.specs.Steps.{stepAt, steps}
 use Rattle.plan.specs.Plans.{judgeSteps, steppedAll, outcome, ran}
-
--- ---- the answer of a step on a list that questions 3 to 5 accept
-taken-answer : (s : Step) (l : ChannelList) → judgeList l ≡ 0 → taken s l .answer ≡ judgeStep s (channels l)
-taken-answer s l ok = go (eqb (judgeStep s (channels l)) 0) refl
-  where
-    go : (b : Bool) → eqb (judgeStep s (channels l)) 0 ≡ b → taken s l .answer ≡ judgeStep s (channels l)
-    go true h =
-        let zero = eqb-true (judgeStep s (channels l)) 0 h in
-        ap (λ (t : Stepped). t .answer) (step-taken s l ok zero) ∙ sym zero
-    go false h = ap (λ (t : Stepped). t .answer) (step-refused s l ok (eqb-false (judgeStep s (channels l)) 0 h))
 
 -- ---- the list `now` is reached, and the steps from k on are left
 abbrev left : Steps → ℕ → List Step
@@ -41,7 +29,7 @@ left s k = table (stepAt s) k (s .count - k)
 
 pub record Reached (l : ChannelList) (s : Steps) (now : ChannelList) (k : ℕ) : Type 0 where
   pub inside : k ≤ s .count
-  pub ok : judgeList now ≡ 0
+  pub ok : Accepted (channels now)
   pub tidy : now ≡ packed (channels now)
   pub judged : judgeSteps (left s k) (channels now) ≡ judgeSteps (steps s) (channels l)
   pub stepped : steppedAll (left s k) (channels now) ≡ steppedAll (steps s) (channels l)
@@ -55,7 +43,7 @@ module _ (l : ChannelList) (s : Steps) where
       let same : channels now ≡ cs = ap channels e ∙ channels-packed cs (a .few) in
       record {
         inside = h;
-        ok = ap judgeList e ∙ packed-accepted cs a;
+        ok = rw same a;
         tidy = e ∙ ap packed (sym same);
         judged = rw same j;
         stepped = rw same r;
@@ -68,12 +56,12 @@ module _ (l : ChannelList) (s : Steps) where
       packed-reached 0 now (channels l) (omega arith) (list-accepted l ok) e (rw z) (rw z)
 
   -- step x is the one at k, and t what the list makes of it
-  module _ (now : ChannelList) (k : ℕ) (w : Reached l s now k) (h : k < s .count) (x : Step) (ex : x ≡ stepAt s k) (t : Stepped) (et : t ≡ taken x now) where
+  module _ (now : ChannelList) (k : ℕ) (w : Reached l s now k) (h : k < s .count) (x : Step) (ex : x ≡ stepAt s k) (t : Stepped) (et : t ≡ takenOn x now) where
     split : left s k ≡ x ∷ left s (k + 1)
     split = rw ex (table-rest (stepAt s) k (s .count) h)
 
     answered : t .answer ≡ judgeStep x (channels now)
-    answered = ap (λ (u : Stepped). u .answer) et ∙ taken-answer x now (w .ok)
+    answered = ap (λ (u : Stepped). u .answer) et ∙ on-answer x now
 
     pub reached-stop : (t .answer ≡ 0 → ⊥) → record { answer = t .answer; list = l } ≡ ran (steps s) l
     unfolding outcome ran
@@ -86,8 +74,8 @@ module _ (l : ChannelList) (s : Steps) where
     reached-more accepted =
         let zero : judgeStep x (channels now) ≡ 0 = sym answered ∙ accepted in
         packed-reached (k + 1) (t .list) (Lists.stepped x (channels now)) (omega arith)
-        (stepped-allowed x (channels now) (step-accepted x (channels now) zero) (list-accepted now (w .ok)))
-        (ap (λ (u : Stepped). u .list) (et ∙ step-taken x now (w .ok) zero))
+        (stepped-allowed x (channels now) (step-accepted x (channels now) zero) (w .ok))
+        (ap (λ (u : Stepped). u .list) (et ∙ on-taken x now zero))
         (rw (split, zero) at (w .judged))
         (rw split at (w .stepped))
 

@@ -18,6 +18,7 @@ use channel::Channel;
 use list::ChannelList;
 use list::Step;
 use list::Stepped;
+use list::entry_of;
 use list::halved;
 use list::store;
 use numbers::REFUSED_COUNT;
@@ -220,7 +221,7 @@ fn leading(list: ChannelList, which: Counted) -> usize
 {
     let count = list.count;
     for k in 0..ChannelList::MAX_CHANNELS {
-        let c = list.channel(k);
+        let c = entry_of(&list.widths, &list.heights, &list.hshifts, &list.vshifts, k);
         if (count <= k) | !is_counted(c, which) {
             return k;
         }
@@ -248,11 +249,12 @@ fn default_steps(list: ChannelList) -> Steps
     ensures { λ r. ⌜ r ≡ Spec.packed (Default.defaultSteps Default.stoppingSide (channels list)) ⌝ }
     ensures room { λ r. ⌜ r .count ≤ maxSteps ⌝ }
 {
-    let metas = meta_count(list);
-    let first = list.channel(metas);
-    let second = list.channel(metas + 1);
-    let m = metas as u16;
-    let n = (list.count - metas) as u16;
+    let k = meta_count(list);
+    let first = entry_of(&list.widths, &list.heights, &list.hshifts, &list.vshifts, k);
+    let j = k + 1;
+    let second = entry_of(&list.widths, &list.heights, &list.hshifts, &list.vshifts, j);
+    let m = k as u16;
+    let n = (list.count - k) as u16;
     let w = first.width;
     let h = first.height;
     let steps = chroma(Steps::empty(), m, n, w, h, second);
@@ -341,7 +343,7 @@ fn tidied(list: ChannelList) -> ChannelList
     let mut hshifts = [0u8; 256];
     let mut vshifts = [0u8; 256];
     for k in 0..count {
-        let c = list.channel(k);
+        let c = entry_of(&list.widths, &list.heights, &list.hshifts, &list.vshifts, k);
         store(c, k, &mut widths, &mut heights, &mut hshifts, &mut vshifts);
     }
     ChannelList {
@@ -362,7 +364,7 @@ fn run(list: ChannelList, steps: Steps) -> Stepped
     let count = steps.count;
     let mut now = tidied(list);
     for k in 0..count {
-        let stepped = now.step(steps.step(k));
+        let stepped = now.step_on(steps.step(k));
         let answer = stepped.answer;
         if answer != 0 {
             return Stepped { answer, list };

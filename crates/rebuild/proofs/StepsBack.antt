@@ -1,163 +1,275 @@
--- A run of accepted steps back from the list that they leave, last first (`rebuilt` of crate runs): with so many steps left, the list is the one
--- that those leave, and the steps after them have been taken back. Assumes nothing.
-use mathlib.Core.Path.{_≡_, refl, sym, ap, _∙_}
-use mathlib.Core.Bool.{true, and-eq-true-iff}
-use mathlib.Core.List.{List, [], _∷_, _++_}
-use Prim.Native.Nat.{ℕ, zero, suc, _+_, _-_, _≤_, min}
+-- A run of accepted steps back, last first (`Back` of specs/Run.antt): what a step's range, marks and closing leave is the list before the step with
+-- its samples. Assumes nothing.
+use mathlib.Core.Path.{_≡_, refl, sym, ap, subst, _∙_}
+use mathlib.Core.Bool.{Bool, true, false, cond}
+use mathlib.Core.List.{List, [], _∷_}
+use mathlib.Core.Logic.{_⊎_, inl, inr}
+use Prim.Native.Nat.{ℕ, suc, _+_, _-_, _<_, _≤_}
 use native.Mathlib.Omega.{arith}
-use borrow.Author.Tests.{eq-eqb, leb-true}
+use borrow.Author.Tests.{eq-eqb, lt-ltb, le-ltb}
+use lib.Dec.{eqb, ltb}
 use lib.IntN.{ℤ}
-use lib.ListN.{length}
-use Rattle.numbers.specs.Numbers.{maxSamples}
+use lib.ListN.{length, getD}
 use Rattle.channel.specs.declared.Channel.{Channel}
-use Rattle.channel.specs.Channel.{shiftsAllowed, sidesFit}
 use Rattle.list.specs.declared.ChannelList.{ChannelList}
 use Rattle.list.specs.declared.Step.{Step}
-use Rattle.list.specs.Tables.{table, all}
-use Rattle.list.specs.Lists.{maxSteps, channels, packed, stepped, total}
-use Rattle.list.specs.Questions as Questions
-use Rattle.list.specs.Questions.{metaFirst, judgeStep}
-use Rattle.list.specs.Accepted.{Accepted, StepAccepted}
-use Rattle.list.proofs.Acceptance.{step-accepted}
-use Rattle.list.proofs.Packed.{channels-packed}
-use Rattle.list.proofs.Tables.{table-rest, table-none}
+use Rattle.list.specs.Tables.{table}
+use Rattle.list.specs.Lists.{maxChannels, stepped}
+use Rattle.list.specs.Questions.{channelOf, judgeStep}
+use Rattle.list.proofs.Tables.{table-rest}
+use Rattle.list.proofs.Entries.{stepped-length}
+use Rattle.line.proofs.Lines.{lt-or-ge}
+use Rattle.places.specs.Places.{Place, area, odd, stepPlaces, residualsAt, root, placeOf, bare}
+use Rattle.places.specs.Laid.{part}
+use Rattle.places.proofs.Steps.{steps-length, step-before, step-between, step-after, root-average, residuals-from}
+use Rattle.places.proofs.Sided.{sided-area}
 use Rattle.plan.specs.declared.Steps.{Steps}
-use Rattle.plan.specs.Steps as S
-use Rattle.plan.specs.Steps.{stepAt, steps}
-use Rattle.plan.specs.Plans.{judgeSteps, steppedAll}
-use Rattle.plan.proofs.Runs.{none-refused, stepped-append, judge-append, steps-total, plan-accepted}
-use Rattle.undo.specs.Undone.{undone}
-use Rattle.undo.proofs.OneStep.{stepped-fits, undone-stepped}
-use Rattle.runs.specs.Runs.{stepBack, rebuilt}
-use Rattle.rebuild.specs.Run.{standing, firstList, StepFits, RunFits}
-use Rattle.rebuild.proofs.Standing.{none-stands}
+use Rattle.plan.specs.Steps.{stepAt}
+use Rattle.runs.specs.Parts.{parts}
+use Rattle.runs.specs.Runs.{channelBack, backParts, stepBack, rebuilt}
+use Rattle.runs.proofs.Shapes.{Shaped, parts-joined, joined-length}
+use Rattle.rebuild.specs.Run.{sliceOf, lyingIn, sourceAt, held, RangeFits, TakenBack, listAt, placesAt, samplesAt, RunFits, Back}
+use Rattle.rebuild.proofs.Lent.{source-length, slice-length}
+use Rattle.rebuild.proofs.Backs.{shaped-by, back-count, back-before, back-range, back-behind}
+use Rattle.rebuild.proofs.Firsts.{list-more, places-more, step-judged, step-ok, list-total, total-few, places-sided, places-laid, step-inside}
 
-accepted-few : (cs : List Channel) → Accepted cs → total cs ≤ maxSamples
-unfolding Questions.totalAllowed
-accepted-few cs ok = leb-true (total cs) maxSamples (ok .samples)
+pub parts-count : (cs : List Channel) (xs : List ℤ) → length (parts cs xs) ≡ length cs
+parts-count [] xs = refl
+parts-count (c ∷ cs) xs = ap suc (parts-count cs _)
 
-pub accepted-shifts : (cs : List Channel) → Accepted cs → all shiftsAllowed cs ≡ true
-unfolding Questions.channelsAllowed
-accepted-shifts cs ok = and-eq-true-iff (all shiftsAllowed cs) (metaFirst cs) .0 (ok .allowed) .0
+-- a channel's sides are all that a squeeze knows of it
+back-sides : (h : Bool) (p : Place) (c : Channel) (a r : List ℤ) → p .width ≡ c .width → p .height ≡ c .height → channelBack h (bare p) a r ≡ channelBack h c a r
+unfolding channelBack
+back-sides h p c a r ew eh = rw (ew, eh)
 
-steps-fit : (ss : List Step) (cs : List Channel) → all sidesFit cs ≡ true → all sidesFit (steppedAll ss cs) ≡ true
-steps-fit [] cs f = f
-steps-fit (s ∷ ss) cs f = steps-fit ss (stepped s cs) (stepped-fits s cs f)
+-- an entry behind the range comes from itself
+root-behind : (n : ℕ) (s : Step) (k : ℕ) → s .begin + s .number ≤ k → k < n → root n s (k + cond (s .inplace) (s .number) 0) ≡ k
+unfolding root
+root-behind n s k g b = by (s .inplace)
+  where
+    by : (t : Bool)
+        → cond (ltb (k + cond t (s .number) 0) (cond t (s .begin + s .number) n)) (k + cond t (s .number) 0)
+        (cond (ltb (k + cond t (s .number) 0) (cond t (s .begin + s .number) n + s .number)) (s .begin + (k + cond t (s .number) 0 - cond t (s .begin + s .number) n))
+        (k + cond t (s .number) 0 - s .number))
+        ≡ k
+    by true = rw (le-ltb (k + s .number) (s .begin + s .number) (omega arith), le-ltb (k + s .number) (s .begin + s .number + s .number) (omega arith)) (omega arith)
+    by false = rw (lt-ltb (k + 0) n (omega arith)) (omega arith)
 
--- ---- the steps before the m-th, and those from it on
-abbrev to : Steps → ℕ → List Step
-to s m = table (stepAt s) 0 m
+module _ (l : ChannelList) (s : Steps) (pyramid : List ℤ) (f : RunFits l s pyramid) (m : ℕ) (h : m < s .count)
+    (starts : List ℕ) (made : List Bool) (picture work : List ℤ) (w : Back l s (m + 1) starts made pyramid picture work) where
+  abbrev st : Step
+  st = stepAt s m
 
-abbrev from : Steps → ℕ → List Step
-from s m = table (stepAt s) m (s .count - m)
+  abbrev qs : List Place
+  qs = placesAt l s m
 
-table-split : (f : ℕ → Step) (k m n : ℕ) → table f k (m + n) ≡ table f k m ++ table f (k + m) n
-table-split f k zero n = let e : k + 0 ≡ k = omega arith in let z : 0 + n ≡ n = omega arith in rw (e, z)
-table-split f k (suc m) n =
-    let e : k + suc m ≡ suc k + m = omega arith in
-    let z : suc m + n ≡ suc (m + n) = omega arith in
-    rw (e, z) (ap (λ (l : List Step). f k ∷ l) (table-split f (suc k) m n))
-
--- one more step at the end
-to-more : (s : Steps) (m : ℕ) → to s (m + 1) ≡ to s m ++ (stepAt s m ∷ [])
-to-more s m = let z : 0 + m ≡ m = omega arith in table-split (stepAt s) 0 m 1 ∙ rw z
-
-all-steps : (s : Steps) (m : ℕ) → m ≤ s .count → s .count ≤ maxSteps → steps s ≡ to s m ++ from s m
-unfolding S.steps
-all-steps s m h few =
-    let e : min (s .count) maxSteps ≡ m + (s .count - m) = omega arith in
-    let z : 0 + m ≡ m = omega arith in
-    rw e (table-split (stepAt s) 0 m (s .count - m) ∙ rw z)
-
--- ---- with m steps left: the list is `next`, and the slices hold the samples of it
-pub record Back (reached : ChannelList) (s : Steps) (pyramid picture work : List ℤ) (m : ℕ) (next : ChannelList) (touched : ℕ) (ys zs : List ℤ) : Type 0 where
-  pub inside : m ≤ s .count
-  pub list-is : channels next ≡ steppedAll (to s m) (firstList s reached)
-  pub upto : touched ≤ length pyramid
-  pub so : standing touched ys pyramid ≡ rebuilt (from s m) (channels next) pyramid
-  pub picture-long : length ys ≡ length picture
-  pub work-long : length zs ≡ length work
-
-module _ (reached : ChannelList) (s : Steps) (pyramid picture work : List ℤ) (f : RunFits reached s pyramid picture work) where
   abbrev cs : List Channel
-  cs = firstList s reached
+  cs = listAt l s m
 
-  whole : steps s ≡ to s (s .count)
-  unfolding S.steps
-  whole = let few = f .few in let e : min (s .count) maxSteps ≡ s .count = omega arith in rw e
+  abbrev ps : List Place
+  ps = stepPlaces st qs
 
-  pub back-none : Back reached s pyramid picture work (s .count) reached 0 picture work
-  back-none =
+  -- the samples of the list after the step
+  abbrev xs : List ℤ
+  xs = rebuilt (table (stepAt s) (m + 1) (s .count - (m + 1))) (stepped st cs) pyramid
+
+  abbrev old : List (List ℤ)
+  old = parts (stepped st cs) xs
+
+  in-range : st .begin + st .number ≤ length qs
+  in-range = step-inside l s pyramid f m h
+
+  after-long : length (placesAt l s (m + 1)) ≡ length qs + st .number
+  after-long = ap length (places-more l s m) ∙ steps-length st qs in-range
+
+  starts-in : (j : ℕ) → j < length qs + st .number → getD starts j 0 + area (placeOf ps j) ≤ length pyramid
+  starts-in j b = rw (places-more l s m) at (w .starts-in j (let n = after-long in omega arith))
+
+  at-home : (j : ℕ) → j < length qs + st .number → getD made j false ≡ true → getD starts j 0 ≡ placeOf ps j .home
+  at-home j b e = rw (places-more l s m) at (w .at-home j (let n = after-long in omega arith) e)
+
+  here : (j : ℕ) → j < length qs + st .number → held st qs starts made pyramid picture work j ≡ getD old j []
+  here j b = rw (places-more l s m, list-more l s m) at (w .here j (let n = after-long in omega arith))
+
+  range-fits : RangeFits st qs starts made pyramid picture work
+  range-fits =
+      let n = places-sided l s pyramid f m (omega arith) .long in
+      let r = step-ok l s pyramid f m h .room in
       record {
-        inside = omega arith;
-        list-is = sym (ap (λ (l : List Step). steppedAll l cs) (sym whole) ∙ f .leads);
-        upto = omega arith;
-        so = none-stands picture pyramid ∙ rw (table-none (stepAt s) (s .count) (s .count) (omega arith));
-        picture-long = refl;
-        work-long = refl;
+        inside = in-range;
+        room = omega arith;
+        laid = places-laid l s pyramid f m (omega arith);
+        few = total-few l s pyramid f;
+        starts-in = starts-in;
+        at-home = at-home;
+        starts-long = w .starts-long;
+        made-long = w .made-long;
+        picture-long = w .picture-long;
+        work-long = w .work-long;
       }
 
-  pub back-all : (next : ChannelList) (touched : ℕ) (ys zs : List ℤ) (m : ℕ) → m ≤ 0 → Back reached s pyramid picture work m next touched ys zs
-      → (touched ≤ length pyramid) × (standing touched ys pyramid ≡ rebuilt (steps s) cs pyramid)
-  back-all next touched ys zs m h w =
-      let z : m ≡ 0 = omega arith in
-      let few = f .few in
-      let e : steps s ≡ from s 0 = all-steps s 0 (omega arith) (f .few) in
-      let l : channels next ≡ cs = rw z at (w .list-is) in
-      (w .upto, w .so ∙ rw (z, l, e))
+  -- the same of a step and of places that are these
+  pub fits-here : (t : Step) → t ≡ st → (rs : List Place) → rs ≡ qs → RangeFits t rs starts made pyramid picture work
+  fits-here t et rs er = rw (et, er) range-fits
 
-  -- the step at m, which is taken back from the list `next`
-  module _ (n m : ℕ) (en : n ≡ m + 1) (next : ChannelList) (touched : ℕ) (ys zs : List ℤ) (w : Back reached s pyramid picture work n next touched ys zs)
-      (st : Step) (es : st ≡ stepAt s m) (list : ChannelList) (el : list ≡ packed (undone st (channels next))) where
-    abbrev ds : List Channel
-    ds = steppedAll (to s m) cs
+  -- ---- the samples before the step
+  samples-are : samplesAt l s m pyramid ≡ stepBack st cs xs
+  samples-are = rw (table-rest (stepAt s) m (s .count) h, eq-eqb (judgeStep st cs) 0 (step-judged l s pyramid f m h))
 
-    split : steps s ≡ to s m ++ (st ∷ from s (m + 1))
-    split = let i = w .inside in all-steps s m (omega arith) (f .few) ∙ rw (table-rest (stepAt s) m (s .count) (omega arith), es)
+  cs-long : length qs ≡ length cs
+  cs-long = places-sided l s pyramid f m (omega arith) .long
 
-    answers : (judgeSteps (to s m) cs ≡ 0) × (judgeSteps (st ∷ from s (m + 1)) ds ≡ 0)
-    answers = none-refused (judgeSteps (to s m) cs) _ (sym (judge-append (to s m) (st ∷ from s (m + 1)) cs) ∙ ap (λ (l : List Step). judgeSteps l cs) (sym split) ∙ f .taken)
+  old-count : length old ≡ length cs + st .number
+  old-count = parts-count (stepped st cs) _ ∙ stepped-length st cs (let n = cs-long in let i = in-range in omega arith)
 
-    judged : judgeStep st ds ≡ 0
-    judged = none-refused (judgeStep st ds) _ (answers .1) .0
+  old-long : (j : ℕ) → j < length qs + st .number → length (getD old j []) ≡ area (placeOf ps j)
+  old-long j b =
+      sym (ap length (here j b))
+      ∙ source-length (sourceAt starts made j) (area (placeOf ps j)) pyramid _ (starts-in j b) (slice-length (eqb (placeOf ps j .slot) odd) picture work _ (w .picture-long) (w .work-long))
 
-    ok : StepAccepted st ds
-    ok = step-accepted st ds judged
+  abbrev new : List (List ℤ)
+  new = backParts st cs old
 
-    was : Accepted ds
-    was = plan-accepted (to s m) cs (f .accepted) (answers .0)
+  cs-range : st .begin + st .number ≤ length cs
+  cs-range = let n = cs-long in let i = in-range in omega arith
 
-    leaves : channels next ≡ stepped st ds
-    leaves = w .list-is ∙ ap (λ (l : List Step). steppedAll l cs) (ap (to s) en ∙ to-more s m) ∙ stepped-append (to s m) (stepAt s m ∷ []) cs ∙ rw es
+  -- entry k behind or before the range comes from entry j
+  abbrev shift : ℕ
+  shift = cond (st .inplace) (st .number) 0
 
-    found : undone st (channels next) ≡ ds
-    found = rw leaves (undone-stepped st ds (steps-fit (to s m) cs (f .sides)) (ok .inside) (accepted-shifts ds was))
+  behind-place : (b : Bool) → st .inplace ≡ b → (k : ℕ) → st .begin + st .number ≤ k → k < length qs → placeOf ps (k + cond b (st .number) 0) ≡ placeOf qs k
+  behind-place true e k g b =
+      let z : k + st .number - st .number ≡ k = omega arith in
+      let r : residualsAt (length qs) st ≡ st .begin + st .number = rw e in
+      rw z at (step-after st qs in-range (k + st .number) (omega arith) (omega arith))
+  behind-place false e k g b =
+      let z : k + 0 ≡ k = omega arith in
+      let r : residualsAt (length qs) st ≡ length qs = rw e in
+      rw z (step-between st qs in-range k g (omega arith))
 
-    before : channels list ≡ ds
-    before = ap channels el ∙ rw found (channels-packed ds (was .few))
+  -- ---- what the step leaves
+  module _ (starts2 : List ℕ) (made2 : List Bool) (picture2 work2 : List ℤ) (tk : TakenBack st qs starts made pyramid picture work starts2 made2 picture2 work2)
+      (es : length starts2 ≡ maxChannels) (em : length made2 ≡ maxChannels) (ep : length picture2 ≡ length pyramid) (ew : length work2 ≡ length pyramid) where
+    -- entry k of the list before the step
+    record Fine (k : ℕ) : Type 0 where
+      start-in : getD starts2 k 0 + area (placeOf qs k) ≤ length pyramid
+      home-is : getD made2 k false ≡ true → getD starts2 k 0 ≡ placeOf qs k .home
+      lies : lyingIn (sourceAt starts2 made2 k) (area (placeOf qs k)) pyramid (sliceOf (eqb (placeOf qs k .slot) odd) picture2 work2) ≡ getD new k []
 
-    pub step-fits : StepFits list next st pyramid touched ys zs
-    step-fits =
+    -- in the range
+    ranged : (i : ℕ) → i < st .number → Fine (st .begin + i)
+    ranged i b =
+        let k = st .begin + i in
+        let n = in-range in
+        let r = residuals-from st qs in-range in
+        let es : getD starts2 k 0 ≡ placeOf qs k .home = tk .closed .start-before k (omega arith) ∙ tk .marked .start-within k (omega arith) (omega arith) ∙ tk .homes-are k (omega arith) in
+        let em : getD made2 k false ≡ true = tk .closed .made-before k (omega arith) ∙ tk .marked .made-within k (omega arith) (omega arith) in
+        let sd = places-sided l s pyramid f m (omega arith) in
         record {
-          inside = rw before (ok .inside);
-          leaves = rw before leaves;
-          few = rw before (accepted-few ds was);
-          pyramid-long = f .pyramid-long ∙ sym (ap total before ∙ steps-total (to s m) cs);
-          stands = record { long = w .picture-long ∙ f .picture-long; reached = w .upto };
-          work-long = w .work-long ∙ f .work-long;
+          start-in = rw es (places-laid l s pyramid f m (omega arith) .inside k (omega arith));
+          home-is = λ e. es;
+          lies =
+              rw (em, es)
+              (tk .ranged .range-made i b
+              ∙ rw (here k (omega arith), here (residualsAt (length qs) st + i) (omega arith))
+              (back-sides (st .horizontal) (placeOf qs k) (channelOf cs k) _ _ (sd .wide k (omega arith)) (sd .high k (omega arith))
+              ∙ sym (rw (← cs-long) at (back-range st cs old cs-range old-count i b))));
         }
 
-    pub back-more : (t : ℕ) (ys2 zs2 : List ℤ)
-        → (t ≤ length pyramid) × (standing t ys2 pyramid ≡ stepBack st (channels list) (standing touched ys pyramid))
-        → length ys2 ≡ length ys → length zs2 ≡ length zs → Back reached s pyramid picture work m list t ys2 zs2
-    back-more t ys2 zs2 e ly lz =
-        let i = w .inside in
-        let first : from s m ≡ st ∷ from s (m + 1) = table-rest (stepAt s) m (s .count) (omega arith) ∙ rw es in
+    -- outside of it, from entry j
+    outside : (k j : ℕ) → k < length qs → j < length qs + st .number → placeOf ps j ≡ placeOf qs k → root (length qs) st j ≡ k
+        → ((i : ℕ) → i < st .number → k ≡ st .begin + i → ⊥) → getD new k [] ≡ getD old j []
+        → getD starts2 k 0 ≡ getD starts j 0 → getD made2 k false ≡ getD made j false → Fine k
+    outside k j b c e er out en es em =
+        record {
+          start-in = rw es (rw e at (starts-in j c));
+          home-is = λ t. es ∙ at-home j c (sym em ∙ t) ∙ ap (λ (p : Place). p .home) e;
+          lies = rw (es, em) (by (getD made j false) refl ∙ here j c ∙ sym en);
+        }
+      where
+        by : (t : Bool) → getD made j false ≡ t
+            → part (getD starts j 0) (area (placeOf qs k)) (cond t (sliceOf (eqb (placeOf qs k .slot) odd) picture2 work2) pyramid)
+            ≡ part (getD starts j 0) (area (placeOf ps j)) (cond t (sliceOf (eqb (placeOf ps j .slot) odd) picture work) pyramid)
+        by false et = rw e
+        by true et = rw (at-home j c et, ← e) (tk .ranged .others-kept j c (λ i l z. out i l (sym er ∙ z)))
+
+    before : (k : ℕ) → k < st .begin → Fine k
+    before k b =
+        let n = in-range in
+        let r = residuals-from st qs in-range in
+        outside k k (omega arith) (omega arith) (step-before st qs in-range k b) (root-average st qs in-range k (omega arith)) (λ i c z. absurd (omega arith)) (back-before st cs old cs-range old-count k b)
+        (tk .closed .start-before k (omega arith) ∙ tk .marked .start-else k (inl b)) (tk .closed .made-before k (omega arith) ∙ tk .marked .made-else k (inl b))
+
+    behind-start : (t : Bool) → st .inplace ≡ t → (k : ℕ) → st .begin + st .number ≤ k → k < length qs → getD starts2 k 0 ≡ getD starts (k + cond t (st .number) 0) 0
+    behind-start true e k g b =
+        let r : residualsAt (length qs) st ≡ st .begin + st .number = rw e in
+        tk .closed .start-behind k (omega arith) b ∙ tk .marked .start-else (k + st .number) (inr (omega arith))
+    behind-start false e k g b =
+        let z : k + 0 ≡ k = omega arith in
+        let r : residualsAt (length qs) st ≡ length qs = rw e in
+        rw z (tk .closed .start-before k (omega arith) ∙ tk .marked .start-else k (inr g))
+
+    behind-made : (t : Bool) → st .inplace ≡ t → (k : ℕ) → st .begin + st .number ≤ k → k < length qs → getD made2 k false ≡ getD made (k + cond t (st .number) 0) false
+    behind-made true e k g b =
+        let r : residualsAt (length qs) st ≡ st .begin + st .number = rw e in
+        tk .closed .made-behind k (omega arith) b ∙ tk .marked .made-else (k + st .number) (inr (omega arith))
+    behind-made false e k g b =
+        let z : k + 0 ≡ k = omega arith in
+        let r : residualsAt (length qs) st ≡ length qs = rw e in
+        rw z (tk .closed .made-before k (omega arith) ∙ tk .marked .made-else k (inr g))
+
+    shift-few : (t : Bool) → cond t (st .number) 0 ≤ st .number
+    shift-few true = omega arith
+    shift-few false = omega arith
+
+    behind : (k : ℕ) → st .begin + st .number ≤ k → k < length qs → Fine k
+    behind k g b =
+        let t = st .inplace in
+        let n = shift-few (st .inplace) in
+        outside k (k + shift) b (omega arith) (behind-place t refl k g b) (root-behind (length qs) st k g b) (λ i c z. absurd (omega arith))
+        (back-behind st cs old cs-range old-count k g (let z = cs-long in omega arith)) (behind-start t refl k g b) (behind-made t refl k g b)
+
+    fine : (k : ℕ) → k < length qs → Fine k
+    fine k b = by (lt-or-ge k (st .begin)) (lt-or-ge k (st .begin + st .number))
+      where
+        by : (k < st .begin) ⊎ (st .begin ≤ k) → (k < st .begin + st .number) ⊎ (st .begin + st .number ≤ k) → Fine k
+        by (inl c) d = before k c
+        by (inr c) (inl d) = let z : st .begin + (k - st .begin) ≡ k = omega arith in subst Fine z (ranged (k - st .begin) (omega arith))
+        by (inr c) (inr d) = behind k d b
+
+    new-shape : Shaped cs new
+    new-shape =
+        shaped-by cs new (back-count st cs old cs-range old-count)
+        (λ k b.
+        let n = cs-long in
+        let x = fine k (omega arith) in
+        sym (ap length (x .lies)) ∙ source-length (sourceAt starts2 made2 k) (area (placeOf qs k)) pyramid _ (x .start-in) (slice-length (eqb (placeOf qs k .slot) odd) picture2 work2 _ ep ew)
+        ∙ sided-area cs qs (places-sided l s pyramid f m (omega arith)) k (omega arith))
+
+    parts-are : parts cs (samplesAt l s m pyramid) ≡ new
+    unfolding stepBack
+    parts-are = ap (parts cs) samples-are ∙ parts-joined cs new new-shape
+
+    samples-long : length (samplesAt l s m pyramid) ≡ length pyramid
+    unfolding stepBack
+    samples-long = ap length samples-are ∙ joined-length cs new new-shape ∙ list-total l s pyramid f m
+
+    back-more : Back l s m starts2 made2 pyramid picture2 work2
+    back-more =
         record {
           inside = omega arith;
-          list-is = before;
-          upto = e .0;
-          so = e .1 ∙ rw (first, before, eq-eqb (judgeStep st ds) 0 judged) (ap (stepBack st ds) (w .so ∙ rw (leaves, en)));
-          picture-long = ly ∙ w .picture-long;
-          work-long = lz ∙ w .work-long;
+          starts-in = λ k b. fine k b .start-in;
+          at-home = λ k b. fine k b .home-is;
+          here = λ k b. fine k b .lies ∙ ap (λ (ps : List (List ℤ)). getD ps k []) (sym parts-are);
+          samples-long = samples-long;
+          starts-long = es;
+          made-long = em;
+          picture-long = ep;
+          work-long = ew;
         }
+
+  pub back-here : (t : Step) → t ≡ st → (rs : List Place) → rs ≡ qs → (starts2 : List ℕ) (made2 : List Bool) (picture2 work2 : List ℤ)
+      → TakenBack t rs starts made pyramid picture work starts2 made2 picture2 work2
+      → length starts2 ≡ length starts → length made2 ≡ length made → length picture2 ≡ length picture → length work2 ≡ length work → Back l s m starts2 made2 pyramid picture2 work2
+  back-here t et rs er starts2 made2 picture2 work2 tk es em ep ew =
+      back-more starts2 made2 picture2 work2 (rw (et, er) at tk) (es ∙ w .starts-long) (em ∙ w .made-long) (ep ∙ w .picture-long) (ew ∙ w .work-long)

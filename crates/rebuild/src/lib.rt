@@ -1,26 +1,33 @@
 // The plan run (document 01, "Whole runs"): a picture rebuilt from its pyramid,
-// the steps of a plan taken last first, in place on the picture slice; a sample
-// that no step has touched yet is left in the pyramid. Total: questions 3 to 11
-// and 14 in that order, each refusal with its number and both lent slices
-// untouched.
+// the steps of a plan taken last first. A channel is made at its home (crate
+// places), in the picture or in the work slice by turns, from an average and a
+// residual that lie in the pyramid or, if a step has made them, at their homes in
+// the other slice: a step moves no other sample. Total: questions 3 to 11 and 14
+// in that order, each refusal with its number and both lent slices untouched.
 ghost use mathlib.Core.Path.{_≡_};
 ghost use mathlib.Core.Bool.{cond};
-ghost use mathlib.Core.List.{_++_};
-ghost use Prim.Native.Nat.{_+_, _≤_, min, max};
-ghost use lib.ListN.{length, take, drop};
+ghost use Prim.Native.Nat.{_+_, _<_, _≤_};
+ghost use lib.Dec.{eqb};
+ghost use lib.ListN.{length};
 ghost use Rattle.channel.specs.Channel.{samples};
-ghost use Rattle.list.specs.Lists.{channels, average, range, total};
+ghost use Rattle.list.specs.Lists.{maxChannels, channels, average};
+ghost use Rattle.plan.specs.Steps as Spec;
 ghost use Rattle.line.specs.Forward.{averageCount};
 ghost use Rattle.tile.specs.Call as Call;
-ghost use Rattle.plan.specs.Steps as Spec;
-ghost use Rattle.buffer.specs.Buffer.{copied};
-ghost use Rattle.runs.specs.Runs.{linesOf, sizeOf, channelBack, stepBack, rebuilt};
+ghost use Rattle.places.specs.Places.{odd, placesIn};
+ghost use Rattle.places.specs.Laid.{part, written};
+ghost use Rattle.runs.specs.Runs.{linesOf, sizeOf, channelBack, rebuilt};
 ghost use Rattle.rebuild.specs.Rebuild.{answerOf, pictureAfter, workAfter};
-ghost use Rattle.rebuild.specs.Run.{cut, standing, rangeFrom, firstList, ChannelFits, RangeFits, Stands, LoadFits, OverFits, Over, StepFits, RunFits};
+ghost use Rattle.rebuild.specs.Run.{lyingIn, channelFrom, other, ChannelFits, PutFits, Wrote, RangeFits, Ranged, Marked, Closed, TakenBack, placesAll, firstSteps, StepsFit, RunFits, Back, SettleFits, Settled};
 use channel::Channel;
 use list::ChannelList;
 use list::Step;
 use numbers::REFUSED_LENGTH;
+use places::ODD;
+use places::UNMADE;
+use places::lay;
+use places::place_step;
+use places::residuals_at;
 use plan::Steps;
 use tile::Sides;
 
@@ -101,201 +108,316 @@ fn channel_back(c: Channel, horizontal: bool, avg: &[i32], res: &[i32], out: &mu
     );
 }
 
-// The channels of a step's range, to the picture from `start` on: their
-// averages stand at the front of `avg`, their residuals at the front of `res`.
-fn range_back(
-    list: ChannelList,
-    step: Step,
-    avg: &[i32],
-    res: &[i32],
-    picture: &mut [i32],
+// Where an average or a residual lies: its start in the pyramid, or at its home
+// if a step has made it.
+struct Source {
+    made: bool,
     start: usize,
-)
-    requires { ⌜ RangeFits list step (now avg) (now res) (now picture) start ⌝ }
-    ensures { λ _. ⌜ now (picture .exit) ≡ take start (now (picture .entry)) ++ (rangeFrom (step .horizontal) (range step (channels list)) (now (avg .entry)) (now (res .entry)) ++ drop (start + total (range step (channels list))) (now (picture .entry))) ⌝ }
-{
-    let horizontal = step.horizontal;
-    let begin = step.begin as usize;
-    let end = begin + step.number as usize;
-    let mut a = 0;
-    let mut r = 0;
-    let mut o = start;
-    for k in begin..end {
-        let c = list.channel(k);
-        let samples = c.samples() as usize;
-        let averages = average_samples(c, horizontal);
-        let ae = a + averages;
-        let re = r + (samples - averages);
-        let oe = o + samples;
-        channel_back(c, horizontal, &avg[a..ae], &res[r..re], &mut picture[o..oe]);
-        a = ae;
-        r = re;
-        o = oe;
-    }
 }
 
-fn smaller(m: usize, n: usize) -> usize
-    ensures { λ r. ⌜ r ≡ min m n ⌝ }
+// The n samples of it; `other` is the slice of its home.
+fn lying<'a>(source: Source, n: usize, pyramid: &'a [i32], other: &'a [i32]) -> &'a [i32]
+    requires { ⌜ (source .start + n ≤ length (now pyramid)) × (length (now other) ≡ length (now pyramid)) ⌝ }
+    ensures { λ r. ⌜ now r ≡ lyingIn source n (now (pyramid .entry)) (now (other .entry)) ⌝ }
 {
-    if m < n { m } else { n }
-}
-
-fn larger(m: usize, n: usize) -> usize
-    ensures { λ r. ⌜ r ≡ max m n ⌝ }
-{
-    if m < n { n } else { m }
-}
-
-// While the steps are taken, the samples of the list stand in the picture up to
-// `touched`; the others, which no step has touched, lie in the pyramid. Here all
-// before `upto` come to the picture. Gives back how far it then goes.
-fn settle(pyramid: &[i32], touched: usize, upto: usize, picture: &mut [i32]) -> usize
-    requires { ⌜ Stands touched (now picture) (now pyramid) × (upto ≤ length (now pyramid)) ⌝ }
-    ensures { λ r. ⌜ (r ≡ max touched upto) × (standing r (now (picture .exit)) (now (pyramid .entry)) ≡ standing touched (now (picture .entry)) (now (pyramid .entry))) ⌝ }
-{
-    if touched < upto {
-        buffer::copy(&pyramid[touched..upto], &mut picture[touched..]);
-        return upto;
-    }
-    touched
-}
-
-// The samples from `from` to `upto`, from where they stand, to the front of
-// the work slice.
-fn load(
-    pyramid: &[i32],
-    touched: usize,
-    picture: &[i32],
-    from: usize,
-    upto: usize,
-    work: &mut [i32],
-)
-    requires { ⌜ LoadFits touched (now picture) (now pyramid) from upto (now work) ⌝ }
-    ensures { λ _. ⌜ now (work .exit) ≡ copied (cut from upto (standing touched (now (picture .entry)) (now (pyramid .entry)))) (now (work .entry)) ⌝ }
-{
-    let seam = smaller(touched, upto);
-    let at = seam - from;
-    buffer::copy(&picture[from..seam], work);
-    buffer::copy(&pyramid[seam..upto], &mut work[at..]);
-}
-
-// A step's range, made in the picture where its averages stand: these, and what
-// lies between them and the residuals, go to the work slice first. Residuals, from
-// `residuals` to `moved`, are read in the pyramid if no step has touched them, and
-// else go to the work slice too.
-fn range_over(
-    list: ChannelList,
-    step: Step,
-    pyramid: &[i32],
-    touched: usize,
-    from: usize,
-    residuals: usize,
-    moved: usize,
-    picture: &mut [i32],
-    work: &mut [i32],
-)
-    requires { ⌜ OverFits list step (now pyramid) touched from residuals moved (now picture) (now work) ⌝ }
-    ensures { λ _. ⌜ Over list step (standing touched (now (picture .entry)) (now (pyramid .entry))) from residuals moved (now (picture .entry)) (now (picture .exit)) (now (work .exit)) ⌝ }
-{
-    if touched <= residuals {
-        load(pyramid, touched, picture, from, residuals, work);
-        range_back(list, step, work, &pyramid[residuals..moved], picture, from);
+    let start = source.start;
+    if source.made {
+        &other[start..start + n]
     } else {
-        let kept = residuals - from;
-        load(pyramid, touched, picture, from, moved, work);
-        let loaded = &work[..];
-        range_back(list, step, loaded, &loaded[kept..], picture, from);
+        &pyramid[start..start + n]
     }
 }
 
-// The end of the samples that a step moves.
-fn moved_to(inplace: bool, to: usize, all: usize) -> usize
-    ensures { λ r. ⌜ r ≡ cond inplace to all ⌝ }
+// A channel to its home in `out`, from its average and its residual.
+fn put_channel<'a>(
+    c: Channel,
+    horizontal: bool,
+    avg: Source,
+    res: Source,
+    home: usize,
+    pyramid: &'a [i32],
+    other: &'a [i32],
+    out: &mut [i32],
+)
+    requires { ⌜ PutFits horizontal c avg res home (now pyramid) (now other) (now out) ⌝ }
+    ensures { λ _. ⌜ now (out .exit) ≡ written home (channelFrom horizontal c avg res (now (pyramid .entry)) (now (other .entry))) (now (out .entry)) ⌝ }
 {
-    if inplace { to } else { all }
+    let n = c.samples() as usize;
+    let averages = average_samples(c, horizontal);
+    let a = lying(avg, averages, pyramid, other);
+    let r = lying(res, n - averages, pyramid, other);
+    channel_back(c, horizontal, a, r, &mut out[home..home + n]);
 }
 
-// One step back that moves samples, from those of the list after it, `next`, to
-// those of `list`: its range, and what lies behind it.
-fn step_over(
-    list: ChannelList,
-    next: ChannelList,
-    step: Step,
+// The same where the channel's slot says whether it goes to the work slice or to
+// the picture; what a step has made of it stands in the other of the two.
+fn make_channel(
+    c: Channel,
+    horizontal: bool,
+    slot: u8,
+    avg: Source,
+    res: Source,
+    home: usize,
     pyramid: &[i32],
-    touched: usize,
     picture: &mut [i32],
     work: &mut [i32],
-) -> usize
-    requires { ⌜ StepFits list next step (now pyramid) touched (now picture) (now work) ⌝ }
-    ensures { λ r. ⌜ (r ≤ length (now (pyramid .entry))) × (standing r (now (picture .exit)) (now (pyramid .entry)) ≡ stepBack step (channels list) (standing touched (now (picture .entry)) (now (pyramid .entry)))) ⌝ }
+)
+    requires { ⌜ PutFits horizontal c avg res home (now pyramid) (now picture) (now work) ⌝ }
+    ensures { λ _. ⌜ Wrote (eqb slot odd) home (channelFrom horizontal c avg res (now (pyramid .entry)) (other (eqb slot odd) (now (picture .entry)) (now (work .entry)))) (now (picture .entry)) (now (work .entry)) (now (picture .exit)) (now (work .exit)) ⌝ }
+{
+    if slot == ODD {
+        put_channel(c, horizontal, avg, res, home, pyramid, picture, work);
+    } else {
+        put_channel(c, horizontal, avg, res, home, pyramid, work, picture);
+    }
+}
+
+// The channels of a step's range, each at its home, from their averages and
+// residuals: `starts` has where these lie, `made` whether a step has made them.
+fn make_range(
+    count: usize,
+    step: Step,
+    widths: &[u16; 256],
+    heights: &[u16; 256],
+    homes: &[usize; 256],
+    slots: &[u8; 256],
+    starts: &[usize],
+    made: &[bool],
+    pyramid: &[i32],
+    picture: &mut [i32],
+    work: &mut [i32],
+)
+    requires { ⌜ RangeFits step (placesIn count (now widths) (now heights) (now homes) (now slots)) (now starts) (now made) (now pyramid) (now picture) (now work) ⌝ }
+    ensures { λ _. ⌜ Ranged step (placesIn count (now (widths .entry)) (now (heights .entry)) (now (homes .entry)) (now (slots .entry))) (now (starts .entry)) (now (made .entry)) (now (pyramid .entry)) (now (picture .entry)) (now (work .entry)) (now (picture .exit)) (now (work .exit)) ⌝ }
 {
     let begin = step.begin as usize;
-    let end = begin + step.number as usize;
-    let from = list.samples_before(begin);
-    let to = list.samples_before(end);
-    let moved = moved_to(step.inplace, to, picture.len());
-    let averages = next.samples_before(end) - from;
-    let kept = averages + (moved - to);
-    let settled = settle(pyramid, touched, from, picture);
-    range_over(
-        list,
+    let number = step.number as usize;
+    let residuals = residuals_at(count, step);
+    for i in 0..number {
+        let k = begin + i;
+        let r = residuals + i;
+        let c = Channel {
+            width: widths[k],
+            height: heights[k],
+            hshift: 0,
+            vshift: 0,
+        };
+        let avg = Source {
+            made: made[k],
+            start: starts[k],
+        };
+        let res = Source {
+            made: made[r],
+            start: starts[r],
+        };
+        make_channel(
+            c,
+            step.horizontal,
+            slots[k],
+            avg,
+            res,
+            homes[k],
+            pyramid,
+            picture,
+            work,
+        );
+    }
+}
+
+// The channels of a range now stand at their homes.
+fn mark(begin: usize, end: usize, homes: &[usize; 256], starts: &mut [usize], made: &mut [bool])
+    requires { ⌜ (end ≤ maxChannels) × (length (now starts) ≡ maxChannels) × (length (now made) ≡ maxChannels) ⌝ }
+    ensures { λ _. ⌜ Marked begin end (now (homes .entry)) (now (starts .entry)) (now (made .entry)) (now (starts .exit)) (now (made .exit)) ⌝ }
+{
+    for k in begin..end {
+        starts[k] = homes[k];
+        made[k] = true;
+    }
+}
+
+// The `number` entries at `at` go: those behind them close up.
+fn close(count: usize, at: usize, number: usize, starts: &mut [usize], made: &mut [bool])
+    requires { ⌜ (count + number ≤ maxChannels) × (length (now starts) ≡ maxChannels) × (length (now made) ≡ maxChannels) ⌝ }
+    ensures { λ _. ⌜ Closed at count number (now (starts .entry)) (now (made .entry)) (now (starts .exit)) (now (made .exit)) ⌝ }
+{
+    for k in at..count {
+        starts[k] = starts[k + number];
+        made[k] = made[k + number];
+    }
+}
+
+// The places that the first n steps of a plan leave; how many channels.
+fn place_steps(
+    first: usize,
+    steps: Steps,
+    n: usize,
+    widths: &mut [u16; 256],
+    heights: &mut [u16; 256],
+    homes: &mut [usize; 256],
+    slots: &mut [u8; 256],
+) -> usize
+    requires { ⌜ StepsFit n steps (placesIn first (now widths) (now heights) (now homes) (now slots)) ⌝ }
+    ensures { λ r. ⌜ placesIn r (now (widths .exit)) (now (heights .exit)) (now (homes .exit)) (now (slots .exit)) ≡ placesAll (firstSteps steps n) (placesIn first (now (widths .entry)) (now (heights .entry)) (now (homes .entry)) (now (slots .entry))) ⌝ }
+{
+    let mut count = first;
+    for k in 0..n {
+        count = place_step(count, steps.step(k), widths, heights, homes, slots);
+    }
+    count
+}
+
+// A step taken back, at the places of the list before it: its range is made, and
+// its residuals are no entries any more.
+fn take_back(
+    count: usize,
+    step: Step,
+    widths: &[u16; 256],
+    heights: &[u16; 256],
+    homes: &[usize; 256],
+    slots: &[u8; 256],
+    starts: &mut [usize],
+    made: &mut [bool],
+    pyramid: &[i32],
+    picture: &mut [i32],
+    work: &mut [i32],
+)
+    requires { ⌜ RangeFits step (placesIn count (now widths) (now heights) (now homes) (now slots)) (now starts) (now made) (now pyramid) (now picture) (now work) ⌝ }
+    ensures { λ _. ⌜ TakenBack step (placesIn count (now (widths .entry)) (now (heights .entry)) (now (homes .entry)) (now (slots .entry))) (now (starts .entry)) (now (made .entry)) (now (pyramid .entry)) (now (picture .entry)) (now (work .entry)) (now (starts .exit)) (now (made .exit)) (now (picture .exit)) (now (work .exit)) ⌝ }
+{
+    make_range(
+        count,
         step,
+        widths,
+        heights,
+        homes,
+        slots,
+        starts,
+        made,
         pyramid,
-        settled,
-        from,
-        from + kept,
-        moved,
         picture,
         work,
     );
-    buffer::copy(&work[averages..kept], &mut picture[to..]);
-    larger(settled, moved)
+    let begin = step.begin as usize;
+    let number = step.number as usize;
+    mark(begin, begin + number, homes, starts, made);
+    close(count, residuals_at(count, step), number, starts, made);
 }
 
-// One step back, from the samples of the list after it, `next`, to those of
-// `list`; one that moves nothing leaves them as they stand.
+// Step `m` of a plan taken back.
 fn step_back(
     list: ChannelList,
-    next: ChannelList,
-    step: Step,
+    steps: Steps,
+    m: usize,
+    starts: &mut [usize],
+    made: &mut [bool],
     pyramid: &[i32],
-    touched: usize,
     picture: &mut [i32],
     work: &mut [i32],
-) -> usize
-    requires { ⌜ StepFits list next step (now pyramid) touched (now picture) (now work) ⌝ }
-    ensures { λ r. ⌜ (r ≤ length (now (pyramid .entry))) × (standing r (now (picture .exit)) (now (pyramid .entry)) ≡ stepBack step (channels list) (standing touched (now (picture .entry)) (now (pyramid .entry)))) ⌝ }
+)
+    requires { ⌜ RunFits list steps (now pyramid) × (m < steps .count) × Back list steps (m + 1) (now starts) (now made) (now pyramid) (now picture) (now work) ⌝ }
+    ensures { λ _. ⌜ Back list steps m (now (starts .exit)) (now (made .exit)) (now (pyramid .entry)) (now (picture .exit)) (now (work .exit)) ⌝ }
 {
-    if list.stays(step) {
-        return touched;
-    }
-    step_over(list, next, step, pyramid, touched, picture, work)
+    let mut widths = list.widths;
+    let mut heights = list.heights;
+    let mut homes = [0usize; 256];
+    let mut slots = [UNMADE; 256];
+    let first = list.count;
+    lay(first, &widths, &heights, &mut homes);
+    let count = place_steps(
+        first,
+        steps,
+        m,
+        &mut widths,
+        &mut heights,
+        &mut homes,
+        &mut slots,
+    );
+    take_back(
+        count,
+        steps.step(m),
+        &widths,
+        &heights,
+        &homes,
+        &slots,
+        starts,
+        made,
+        pyramid,
+        picture,
+        work,
+    );
 }
 
-// All steps, last first, from the list that they leave; gives back how far the
-// picture goes. The list before a step is the list after it with the step
-// undone, so that one list is kept and not one for each step.
+// All steps, last first.
 fn steps_back(
-    reached: ChannelList,
+    list: ChannelList,
     steps: Steps,
+    starts: &mut [usize],
+    made: &mut [bool],
     pyramid: &[i32],
     picture: &mut [i32],
     work: &mut [i32],
-) -> usize
-    requires { ⌜ RunFits reached steps (now pyramid) (now picture) (now work) ⌝ }
-    ensures { λ r. ⌜ (r ≤ length (now (pyramid .entry))) × (standing r (now (picture .exit)) (now (pyramid .entry)) ≡ rebuilt (Spec.steps steps) (firstList steps reached) (now (pyramid .entry))) ⌝ }
+)
+    requires { ⌜ RunFits list steps (now pyramid) × Back list steps (steps .count) (now starts) (now made) (now pyramid) (now picture) (now work) ⌝ }
+    ensures { λ _. ⌜ Back list steps 0 (now (starts .exit)) (now (made .exit)) (now (pyramid .entry)) (now (picture .exit)) (now (work .exit)) ⌝ }
 {
-    let mut next = reached;
-    let mut touched = 0;
     let mut left = steps.count;
     while 0 < left {
         left -= 1;
-        let step = steps.step(left);
-        let list = undo::undone(next, step);
-        touched = step_back(list, next, step, pyramid, touched, picture, work);
-        next = list;
+        step_back(list, steps, left, starts, made, pyramid, picture, work);
     }
-    touched
+}
+
+// What no step has made, from the pyramid to its place in the picture.
+fn fetch(made: bool, start: usize, n: usize, at: usize, pyramid: &[i32], picture: &mut [i32])
+    requires { ⌜ (start + n ≤ length (now pyramid)) × (at + n ≤ length (now picture)) ⌝ }
+    ensures { λ _. ⌜ now (picture .exit) ≡ cond made (now (picture .entry)) (written at (part start n (now (pyramid .entry))) (now (picture .entry))) ⌝ }
+{
+    if made {
+        return;
+    }
+    buffer::copy(&pyramid[start..start + n], &mut picture[at..at + n]);
+}
+
+// The same for all channels of the list: the others stand in the picture already.
+fn settle(list: ChannelList, starts: &[usize], made: &[bool], pyramid: &[i32], picture: &mut [i32])
+    requires { ⌜ SettleFits list (now starts) (now made) (now pyramid) (now picture) ⌝ }
+    ensures { λ _. ⌜ Settled list (now (starts .entry)) (now (made .entry)) (now (pyramid .entry)) (now (picture .entry)) (now (picture .exit)) ⌝ }
+{
+    let count = list.count;
+    let mut at = 0;
+    for k in 0..count {
+        let n = list.widths[k] as usize * list.heights[k] as usize;
+        fetch(made[k], starts[k], n, at, pyramid, picture);
+        at += n;
+    }
+}
+
+// Accepted steps on a pyramid of the list that they leave: all channels lie there
+// first, one after the other.
+fn run(list: ChannelList, steps: Steps, pyramid: &[i32], picture: &mut [i32], work: &mut [i32])
+    requires { ⌜ RunFits list steps (now pyramid) × (length (now picture) ≡ length (now pyramid)) × (length (now work) ≡ length (now pyramid)) ⌝ }
+    ensures { λ _. ⌜ now (picture .exit) ≡ rebuilt (Spec.steps steps) (channels list) (now (pyramid .entry)) ⌝ }
+{
+    let mut widths = list.widths;
+    let mut heights = list.heights;
+    let mut homes = [0usize; 256];
+    let mut slots = [UNMADE; 256];
+    let first = list.count;
+    lay(first, &widths, &heights, &mut homes);
+    let count = place_steps(
+        first,
+        steps,
+        steps.count,
+        &mut widths,
+        &mut heights,
+        &mut homes,
+        &mut slots,
+    );
+    let mut starts = [0usize; 256];
+    let mut made = [false; 256];
+    lay(count, &widths, &heights, &mut starts);
+    steps_back(list, steps, &mut starts, &mut made, pyramid, picture, work);
+    settle(list, &starts, &made, pyramid, picture);
 }
 
 // The picture that a pyramid holds under a plan. The answer is 0, or the
@@ -309,8 +431,7 @@ pub fn rebuild(
 ) -> u32
     ensures { λ r. ⌜ (r ≡ answerOf list steps (now (pyramid .entry)) (now (picture .entry)) (now (work .entry))) × (now (picture .exit) ≡ pictureAfter list steps (now (pyramid .entry)) (now (picture .entry)) (now (work .entry))) × (now (work .exit) ≡ workAfter list steps (now (pyramid .entry)) (now (picture .entry)) (now (work .entry))) ⌝ }
 {
-    let rewritten = plan::rewrite(list, steps);
-    let answer = rewritten.answer;
+    let answer = plan::rewrite(list, steps).answer;
     if answer != 0 {
         return answer;
     }
@@ -319,8 +440,7 @@ pub fn rebuild(
         return REFUSED_LENGTH;
     }
     let meant = plan::meant_steps(list, steps).steps;
-    let touched = steps_back(rewritten.list, meant, pyramid, picture, work);
-    settle(pyramid, touched, total, picture);
+    run(list, meant, pyramid, picture, work);
     buffer::clear(work);
     0
 }

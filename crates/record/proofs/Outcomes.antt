@@ -66,20 +66,26 @@ module _ (bytes : List ℕ) (f : Record) (e : f ≡ packedForm (formOf bytes)) w
       let n : formOf bytes .answer ≡ 0 → ⊥ = λ h. z (form-answer ∙ h) in
       e ∙ rw (ne-eqb _ 0 n, ne-eqb _ 0 n) (ap packedForm (form-bare bytes n))
 
-  module _ (z : f .answer ≡ 0) (r : Stepped) (er : r ≡ rewritten (f .list) (f .steps)) where
-    read-answer : r .answer ≡ readAnswer bytes
+  -- a form that passes: the record's answer is its plan's
+  module _ (z : f .answer ≡ 0) where
+    pub form-judged : judgePlan (f .list) (f .steps) ≡ readAnswer bytes
     unfolding readAnswer packedForm
-    read-answer =
-        plan-answer (f .list) (f .steps) r er
-        ∙ rw (eq-eqb _ 0 (sym form-answer ∙ z), ap (λ (x : Record). x .list) e, ap (λ (x : Record). x .steps) e)
+    form-judged = rw (eq-eqb _ 0 (sym form-answer ∙ z), ap (λ (x : Record). x .list) e, ap (λ (x : Record). x .steps) e)
 
-    pub read-refused-plan : (g : Record) → (r .answer ≡ 0 → ⊥) → g ≡ packedForm (refused (r .answer)) → g ≡ readOf bytes
+    pub form-read : judgePlan (f .list) (f .steps) ≡ 0 → f ≡ readOf bytes
     unfolding packedForm readOf
-    read-refused-plan g n eg = eg ∙ rw (← read-answer, ne-eqb (r .answer) 0 n)
+    form-read n = e ∙ rw (← form-judged, n, sym form-answer ∙ z)
 
-    pub read-accepted : r .answer ≡ 0 → f ≡ readOf bytes
-    unfolding packedForm readOf
-    read-accepted n = e ∙ rw (← read-answer, n, sym form-answer ∙ z)
+    module _ (r : Stepped) (er : r ≡ rewritten (f .list) (f .steps)) where
+      plan-judged : r .answer ≡ judgePlan (f .list) (f .steps)
+      plan-judged = plan-answer (f .list) (f .steps) r er
+
+      pub read-refused-plan : (g : Record) → (r .answer ≡ 0 → ⊥) → g ≡ packedForm (refused (r .answer)) → g ≡ readOf bytes
+      unfolding packedForm readOf
+      read-refused-plan g n eg = eg ∙ rw (← form-judged, ← plan-judged, ne-eqb (r .answer) 0 n)
+
+      pub read-accepted : r .answer ≡ 0 → f ≡ readOf bytes
+      read-accepted n = form-read (sym plan-judged ∙ n)
 
 -- ---- the writer, by its answer
 module _ (l : ChannelList) (s : Steps) (out : List ℕ) where

@@ -14,6 +14,7 @@ ghost use Rattle.record.specs.Records as Spec;
 use channel::Channel;
 use list::ChannelList;
 use list::Step;
+use list::entry_of;
 use numbers::REFUSED_COUNT;
 use numbers::REFUSED_FIELD;
 use numbers::REFUSED_FORM;
@@ -190,9 +191,9 @@ fn refused(answer: u32) -> Record
     }
 }
 
-// Questions 1 to 4, field by field. `metas` says whether all channels so far
-// are meta; by question 4 the last one tells.
-fn read_form(bytes: &[u8]) -> Record
+// The list and the steps of a record, by questions 1 to 4 field by field. `metas`
+// says whether all channels so far are meta; by question 4 the last one tells.
+pub fn read_form(bytes: &[u8]) -> Record
     ensures { λ r. ⌜ r ≡ Spec.packedForm (Reading.formOf (now (bytes .entry))) ⌝ }
 {
     let mut list = ChannelList::empty();
@@ -309,7 +310,8 @@ fn write_channels(list: ChannelList, out: &mut [u8])
     let count = list.count;
     let mut at = 0;
     for k in 0..count {
-        let field = channel_field(list.channel(k));
+        let c = entry_of(&list.widths, &list.heights, &list.hshifts, &list.vshifts, k);
+        let field = channel_field(c);
         put_bytes(&field, at, out);
         at += CHANNEL_SIZE;
     }

@@ -3,4 +3,3 @@ pub mod OneChannel
 pub mod OneStep
 pub mod Whole
 pub mod AsStandard
-pub mod Still

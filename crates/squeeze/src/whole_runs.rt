@@ -1,5 +1,6 @@
 // Whole runs over a record: a picture rebuilt from its pyramid, and written as
-// one. Questions 1 to 11 of the record, then 14 of the slices.
+// one. Questions 1 to 4 of the record's form here, then, by the run, 3 to 11 of its
+// list and plan and 14 of the slices.
 ghost use mathlib.Core.Path.{_≡_};
 ghost use Rattle.squeeze.specs.Entry as Entry;
 
@@ -14,11 +15,11 @@ pub extern "C" fn squeeze_rebuild(
 ) -> u32
     ensures { λ r. ⌜ (r ≡ Entry.answer (now (bytes .entry)) (now (pyramid .entry)) (now (picture .entry)) (now (work .entry))) × (now (picture .exit) ≡ Entry.pictureOf (now (bytes .entry)) (now (pyramid .entry)) (now (picture .entry)) (now (work .entry))) × (now (work .exit) ≡ Entry.workOf (now (bytes .entry)) (now (pyramid .entry)) (now (picture .entry)) (now (work .entry))) ⌝ }
 {
-    let read = record::read_record(bytes);
-    if read.answer != 0 {
-        return read.answer;
+    let form = record::read_form(bytes);
+    if form.answer != 0 {
+        return form.answer;
     }
-    rebuild::rebuild(read.list, read.steps, pyramid, picture, work)
+    rebuild::rebuild(form.list, form.steps, pyramid, picture, work)
 }
 
 // The pyramid of the picture that the record describes.
@@ -31,9 +32,9 @@ pub extern "C" fn squeeze_write(
 ) -> u32
     ensures { λ r. ⌜ (r ≡ Entry.answer (now (bytes .entry)) (now (picture .entry)) (now (pyramid .entry)) (now (work .entry))) × (now (pyramid .exit) ≡ Entry.pyramidOf (now (bytes .entry)) (now (picture .entry)) (now (pyramid .entry)) (now (work .entry))) × (now (work .exit) ≡ Entry.workOf (now (bytes .entry)) (now (picture .entry)) (now (pyramid .entry)) (now (work .entry))) ⌝ }
 {
-    let read = record::read_record(bytes);
-    if read.answer != 0 {
-        return read.answer;
+    let form = record::read_form(bytes);
+    if form.answer != 0 {
+        return form.answer;
     }
-    write::write(read.list, read.steps, picture, pyramid, work)
+    write::write(form.list, form.steps, picture, pyramid, work)
 }

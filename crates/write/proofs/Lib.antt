@@ -1,6 +1,11 @@
-pub mod Sums
-pub mod Along
-pub mod Flat
-pub mod Ranges
+pub mod Tables
+pub mod Putting
+pub mod Lying
+pub mod Squeezing
+pub mod Stepping
 pub mod Running
+pub mod Moving
+pub mod Settling
+pub mod Homes
+pub mod First
 pub mod Answered

@@ -1,2 +1,3 @@
-pub mod Halves
+pub mod Standing
+pub mod Settled
 pub mod Write

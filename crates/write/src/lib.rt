@@ -1,26 +1,31 @@
 // The writer (document 01, "Whole runs"): a picture's samples squeezed into a
-// pyramid by the steps of a plan, first to last. Total: questions 3 to 11 of
-// list and plan, then 14, each refusal with its number and the slices untouched.
+// pyramid by the steps of a plan, first to last. A channel is squeezed from where
+// it stands to its home in the other of two slices (crate places), so that a step
+// moves no sample of another channel; what the steps leave goes to its place in
+// the pyramid at the end. Total: questions 3 to 11 of list and plan, then 14, each
+// refusal with its number and the slices untouched.
 ghost use mathlib.Core.Path.{_≡_};
-ghost use mathlib.Core.Bool.{true, false};
-ghost use mathlib.Core.List.{_++_};
-ghost use Prim.Native.Nat.{_+_, _≤_};
-ghost use lib.ListN.{length, drop};
+ghost use Prim.Native.Nat.{_+_, _*_, _≤_};
+ghost use lib.ListN.{length};
 ghost use Rattle.numbers.specs.Numbers.{maxSide};
 ghost use Rattle.channel.specs.Channel.{samples};
-ghost use Rattle.list.specs.Tables.{map};
-ghost use Rattle.list.specs.Lists.{maxSteps, channels, range, total};
+ghost use Rattle.list.specs.Lists.{maxChannels, maxSteps, channels, total};
 ghost use Rattle.list.specs.Questions.{judgeList};
-ghost use Rattle.list.specs.Accepted.{StepAccepted};
+ghost use Rattle.places.specs.Places.{placeAt, placesIn};
+ghost use Rattle.places.specs.Laid.{part, written};
 ghost use Rattle.plan.specs.Steps as Spec;
-ghost use Rattle.plan.specs.Plans.{judgeSteps, meant};
-ghost use Rattle.runs.specs.Runs.{linesOf, sizeOf, stepForward, squeezed};
-ghost use Rattle.write.specs.Halves.{half, halfOf, made};
+ghost use Rattle.plan.specs.Plans.{judgeSteps};
+ghost use Rattle.runs.specs.Parts.{joined};
+ghost use Rattle.runs.specs.Runs.{linesOf, sizeOf, squeezed};
+ghost use Rattle.write.specs.Standing.{placed, Alike, held, halves, Turned, Ranged, Squeezed, Begun, Full, Reached};
+ghost use Rattle.write.specs.Settled.{settling, Moved, Cleared, Starting, settled};
 ghost use Rattle.write.specs.Write as Write;
 use channel::Channel;
 use list::ChannelList;
 use list::Step;
 use numbers::REFUSED_LENGTH;
+use places::ODD;
+use places::UNMADE;
 use plan::Steps;
 
 // The lines of a channel, and the samples along each.
@@ -44,125 +49,278 @@ fn size_of(horizontal: bool, c: Channel) -> usize
     }
 }
 
-// The samples of a channel's averages, or of its residuals.
-fn half_samples(residuals: bool, horizontal: bool, c: Channel) -> usize
-    ensures { λ r. ⌜ r ≡ samples (half residuals horizontal c) ⌝ }
+// The channel at `home` of one slice as averages and residuals at the same home
+// of another.
+fn squeeze_channel(c: Channel, horizontal: bool, home: usize, from: &[i32], to: &mut [i32])
+    requires { ⌜ (home + samples c ≤ length (now from)) × (home + samples c ≤ length (now to)) ⌝ }
+    ensures { λ _. ⌜ now (to .exit) ≡ written home (halves horizontal c (part home (samples c) (now (from .entry)))) (now (to .entry)) ⌝ }
 {
-    let lines = lines_of(horizontal, c);
-    let size = size_of(horizontal, c);
-    let rest = size / 2;
-    if residuals {
-        lines * rest
+    let end = home + c.samples() as usize;
+    forward::squeeze_lines(
+        horizontal,
+        lines_of(horizontal, c),
+        size_of(horizontal, c),
+        &from[home..end],
+        &mut to[home..end],
+    );
+}
+
+// The channel at a place: one that no step has made stands in the picture, the
+// others in the odd slice or in the even one, and what is made of it goes to the
+// other of these two.
+fn squeeze_place(
+    horizontal: bool,
+    width: u16,
+    height: u16,
+    home: usize,
+    slot: u8,
+    picture: &[i32],
+    odd: &mut [i32],
+    even: &mut [i32],
+)
+    requires { ⌜ Alike (now picture) (now odd) (now even) × (home + width * height ≤ length (now picture)) ⌝ }
+    ensures { λ _. ⌜ Turned horizontal (placed width height home slot) (now (picture .entry)) (now (odd .entry)) (now (even .entry)) (now (odd .exit)) (now (even .exit)) ⌝ }
+{
+    let c = Channel {
+        width,
+        height,
+        hshift: 0,
+        vshift: 0,
+    };
+    if slot == UNMADE {
+        squeeze_channel(c, horizontal, home, picture, odd);
+    } else if slot == ODD {
+        squeeze_channel(c, horizontal, home, odd, even);
     } else {
-        lines * (size - rest)
+        squeeze_channel(c, horizontal, home, even, odd);
     }
 }
 
-fn put_half(residuals: bool, horizontal: bool, c: Channel, xs: &[i32], out: &mut [i32])
-    requires { ⌜ (length (now xs) ≡ samples c) × (length (now out) ≡ samples (half residuals horizontal c)) ⌝ }
-    ensures { λ _. ⌜ now (out .exit) ≡ halfOf residuals horizontal c (now (xs .entry)) ⌝ }
+// The channels of a step's range.
+fn squeeze_step(
+    step: Step,
+    widths: &[u16; 256],
+    heights: &[u16; 256],
+    homes: &[usize; 256],
+    slots: &[u8; 256],
+    picture: &[i32],
+    odd: &mut [i32],
+    even: &mut [i32],
+)
+    requires { ⌜ Alike (now picture) (now odd) (now even) × (step .begin + step .number ≤ maxChannels) × Ranged (length (now picture)) (placeAt (now widths) (now heights) (now homes) (now slots)) (step .begin) (step .begin + step .number) ⌝ }
+    ensures { λ _. ⌜ Squeezed (step .horizontal) (placeAt (now (widths .entry)) (now (heights .entry)) (now (homes .entry)) (now (slots .entry))) (step .begin) (step .begin + step .number) (now (picture .entry)) (now (odd .entry)) (now (even .entry)) (now (odd .exit)) (now (even .exit)) ⌝ }
 {
-    let lines = lines_of(horizontal, c);
-    let size = size_of(horizontal, c);
-    if residuals {
-        forward::residual_lines(horizontal, lines, size, xs, out);
-    } else {
-        forward::average_lines(horizontal, lines, size, xs, out);
-    }
-}
-
-// The averages, or the residuals, of the channels of a step's range, whose
-// samples `xs` begins with, to the front of `out`; how many.
-fn put_halves(list: ChannelList, step: Step, residuals: bool, xs: &[i32], out: &mut [i32]) -> usize
-    requires { ⌜ (step .begin + step .number ≤ length (channels list)) × (total (range step (channels list)) ≤ length (now xs)) × (total (map (half residuals (step .horizontal)) (range step (channels list))) ≤ length (now out)) ⌝ }
-    ensures { λ r. ⌜ (r ≡ total (map (half residuals (step .horizontal)) (range step (channels list)))) × (now (out .exit) ≡ made (halfOf residuals (step .horizontal)) (range step (channels list)) (now (xs .entry)) ++ drop r (now (out .entry))) ⌝ }
-{
+    let horizontal = step.horizontal;
     let begin = step.begin as usize;
     let end = begin + step.number as usize;
-    let horizontal = step.horizontal;
-    let mut from = 0;
-    let mut to = 0;
     for k in begin..end {
-        let c = list.channel(k);
-        let n = c.samples() as usize;
-        let m = half_samples(residuals, horizontal, c);
-        put_half(
-            residuals,
+        squeeze_place(
             horizontal,
-            c,
-            &xs[from..from + n],
-            &mut out[to..to + m],
+            widths[k],
+            heights[k],
+            homes[k],
+            slots[k],
+            picture,
+            odd,
+            even,
         );
-        from += n;
-        to += m;
-    }
-    to
-}
-
-// A step in place, on the samples of its range: the averages, then the
-// residuals.
-fn squeeze_range(list: ChannelList, step: Step, pyramid: &mut [i32], work: &mut [i32])
-    requires { ⌜ (step .begin + step .number ≤ length (channels list)) × (length (now pyramid) ≡ total (range step (channels list))) × (length (now pyramid) ≤ length (now work)) ⌝ }
-    ensures { λ _. ⌜ now (pyramid .exit) ≡ made (halfOf false (step .horizontal)) (range step (channels list)) (now (pyramid .entry)) ++ made (halfOf true (step .horizontal)) (range step (channels list)) (now (pyramid .entry)) ⌝ }
-{
-    buffer::copy(pyramid, work);
-    let a = put_halves(list, step, false, work, pyramid);
-    put_halves(list, step, true, work, &mut pyramid[a..]);
-}
-
-// A step not in place, on the samples from its range on, which begin with the
-// `n` of the range: the averages, those behind, the residuals.
-fn squeeze_rest(list: ChannelList, step: Step, n: usize, pyramid: &mut [i32], work: &mut [i32])
-    requires { ⌜ (step .begin + step .number ≤ length (channels list)) × (n ≡ total (range step (channels list))) × (n ≤ length (now pyramid)) × (length (now pyramid) ≤ length (now work)) ⌝ }
-    ensures { λ _. ⌜ now (pyramid .exit) ≡ made (halfOf false (step .horizontal)) (range step (channels list)) (now (pyramid .entry)) ++ (drop n (now (pyramid .entry)) ++ made (halfOf true (step .horizontal)) (range step (channels list)) (now (pyramid .entry))) ⌝ }
-{
-    let len = pyramid.len();
-    buffer::copy(pyramid, work);
-    let a = put_halves(list, step, false, work, pyramid);
-    let r = a + (len - n);
-    buffer::copy(&work[n..len], &mut pyramid[a..r]);
-    put_halves(list, step, true, work, &mut pyramid[r..]);
-}
-
-// One step of an accepted list that moves samples.
-fn squeeze_step(list: ChannelList, step: Step, pyramid: &mut [i32], work: &mut [i32])
-    requires { ⌜ StepAccepted step (channels list) × (length (now pyramid) ≡ total (channels list)) × (length (now work) ≡ total (channels list)) ⌝ }
-    ensures { λ _. ⌜ now (pyramid .exit) ≡ stepForward step (channels list) (now (pyramid .entry)) ⌝ }
-{
-    let begin = step.begin as usize;
-    let from = list.samples_before(begin);
-    let to = list.samples_before(begin + step.number as usize);
-    if step.inplace {
-        squeeze_range(list, step, &mut pyramid[from..to], work);
-    } else {
-        squeeze_rest(list, step, to - from, &mut pyramid[from..], work);
     }
 }
 
-// One step of an accepted list, on its samples; one that moves nothing leaves
-// them as they are.
-fn step_forward(list: ChannelList, step: Step, pyramid: &mut [i32], work: &mut [i32])
-    requires { ⌜ StepAccepted step (channels list) × (length (now pyramid) ≡ total (channels list)) × (length (now work) ≡ total (channels list)) ⌝ }
-    ensures { λ _. ⌜ now (pyramid .exit) ≡ stepForward step (channels list) (now (pyramid .entry)) ⌝ }
+// Accepted steps, first to last; how many channels they leave.
+fn squeeze_steps(
+    list: ChannelList,
+    steps: Steps,
+    widths: &mut [u16; 256],
+    heights: &mut [u16; 256],
+    homes: &mut [usize; 256],
+    slots: &mut [u8; 256],
+    picture: &[i32],
+    odd: &mut [i32],
+    even: &mut [i32],
+) -> usize
+    requires { ⌜ Begun list steps (placesIn (list .count) (now widths) (now heights) (now homes) (now slots)) (now picture) (now odd) (now even) ⌝ }
+    ensures { λ r. ⌜ Reached list steps r (placesIn r (now (widths .exit)) (now (heights .exit)) (now (homes .exit)) (now (slots .exit))) (now (picture .entry)) (now (odd .exit)) (now (even .exit)) ⌝ }
 {
-    if list.stays(step) {
-        return;
-    }
-    squeeze_step(list, step, pyramid, work);
-}
-
-// Accepted steps on the samples of an accepted list, first to last.
-fn run(list: ChannelList, steps: Steps, pyramid: &mut [i32], work: &mut [i32])
-    requires { ⌜ (judgeList list ≡ 0) × (steps .count ≤ maxSteps) × (judgeSteps (Spec.steps steps) (channels list) ≡ 0) × (length (now pyramid) ≡ total (channels list)) × (length (now work) ≡ total (channels list)) ⌝ }
-    ensures { λ _. ⌜ now (pyramid .exit) ≡ squeezed (Spec.steps steps) (channels list) (now (pyramid .entry)) ⌝ }
-{
-    let count = steps.count;
-    let mut now = list;
-    for k in 0..count {
+    let mut count = list.count;
+    let n = steps.count;
+    for k in 0..n {
         let step = steps.step(k);
-        step_forward(now, step, pyramid, work);
-        now = now.step(step).list;
+        squeeze_step(step, widths, heights, homes, slots, picture, odd, even);
+        count = places::place_step(count, step, widths, heights, homes, slots);
     }
+    count
+}
+
+// `n` samples at `at` of one slice to `start` of another.
+fn move_part(from: &[i32], at: usize, n: usize, to: &mut [i32], start: usize)
+    requires { ⌜ (at + n ≤ length (now from)) × (start + n ≤ length (now to)) ⌝ }
+    ensures { λ _. ⌜ now (to .exit) ≡ written start (part at n (now (from .entry))) (now (to .entry)) ⌝ }
+{
+    buffer::copy(&from[at..at + n], &mut to[start..start + n]);
+}
+
+// A channel that stands in the pyramid, but not at its start, to its home in the
+// work slice.
+fn clear_place(
+    width: u16,
+    height: u16,
+    home: usize,
+    slot: u8,
+    start: usize,
+    pyramid: &[i32],
+    work: &mut [i32],
+)
+    requires { ⌜ (length (now work) ≡ length (now pyramid)) × (home + width * height ≤ length (now pyramid)) ⌝ }
+    ensures { λ _. ⌜ Moved start (placed width height home slot) (now (pyramid .entry)) (now (work .entry)) (now (work .exit)) ⌝ }
+{
+    if (slot == ODD) & (home != start) {
+        move_part(pyramid, home, width as usize * height as usize, work, home);
+    }
+}
+
+// Every channel, so that nothing is lost when the pyramid is written.
+fn clear_way(
+    count: usize,
+    widths: &[u16; 256],
+    heights: &[u16; 256],
+    homes: &[usize; 256],
+    slots: &[u8; 256],
+    starts: &[usize; 256],
+    pyramid: &[i32],
+    work: &mut [i32],
+)
+    requires { ⌜ (count ≤ maxChannels) × (length (now work) ≡ length (now pyramid)) × Ranged (length (now pyramid)) (placeAt (now widths) (now heights) (now homes) (now slots)) 0 count ⌝ }
+    ensures { λ _. ⌜ Cleared count (placeAt (now (widths .entry)) (now (heights .entry)) (now (homes .entry)) (now (slots .entry))) (now (starts .entry)) (now (pyramid .entry)) (now (work .entry)) (now (work .exit)) ⌝ }
+{
+    for k in 0..count {
+        clear_place(
+            widths[k],
+            heights[k],
+            homes[k],
+            slots[k],
+            starts[k],
+            pyramid,
+            work,
+        );
+    }
+}
+
+// A channel to its start in the pyramid: from the picture if no step has made it,
+// else from the work slice, unless it stands there already.
+fn settle_place(
+    width: u16,
+    height: u16,
+    home: usize,
+    slot: u8,
+    start: usize,
+    picture: &[i32],
+    work: &[i32],
+    pyramid: &mut [i32],
+)
+    requires { ⌜ (home + width * height ≤ length (now picture)) × (home + width * height ≤ length (now work)) × (start + width * height ≤ length (now pyramid)) ⌝ }
+    ensures { λ _. ⌜ now (pyramid .exit) ≡ written start (settling (now (picture .entry)) (now (pyramid .entry)) (now (work .entry)) start (placed width height home slot)) (now (pyramid .entry)) ⌝ }
+{
+    let n = width as usize * height as usize;
+    if slot == UNMADE {
+        move_part(picture, home, n, pyramid, start);
+    } else if (slot != ODD) | (home != start) {
+        move_part(work, home, n, pyramid, start);
+    }
+}
+
+// Every channel, first to last.
+fn settle(
+    count: usize,
+    widths: &[u16; 256],
+    heights: &[u16; 256],
+    homes: &[usize; 256],
+    slots: &[u8; 256],
+    starts: &[usize; 256],
+    picture: &[i32],
+    work: &[i32],
+    pyramid: &mut [i32],
+)
+    requires { ⌜ (count ≤ maxChannels) × Alike (now picture) (now pyramid) (now work) × Starting (length (now picture)) count (placeAt (now widths) (now heights) (now homes) (now slots)) (now starts) ⌝ }
+    ensures { λ _. ⌜ now (pyramid .exit) ≡ settled (now (picture .entry)) (now (pyramid .entry)) (now (work .entry)) (placeAt (now (widths .entry)) (now (heights .entry)) (now (homes .entry)) (now (slots .entry))) (now (starts .entry)) count ⌝ }
+{
+    for k in 0..count {
+        settle_place(
+            widths[k],
+            heights[k],
+            homes[k],
+            slots[k],
+            starts[k],
+            picture,
+            work,
+            pyramid,
+        );
+    }
+}
+
+// The channels that the steps leave, from where they stand to the pyramid, one
+// after the other.
+fn finish<'a>(
+    count: usize,
+    widths: &'a [u16; 256],
+    heights: &'a [u16; 256],
+    homes: &[usize; 256],
+    slots: &[u8; 256],
+    picture: &[i32],
+    pyramid: &mut [i32],
+    work: &mut [i32],
+)
+    requires { ⌜ Alike (now picture) (now pyramid) (now work) × Full count (placesIn count (now widths) (now heights) (now homes) (now slots)) (length (now picture)) ⌝ }
+    ensures { λ _. ⌜ now (pyramid .exit) ≡ joined (held (now (picture .entry)) (now (pyramid .entry)) (now (work .entry)) (placesIn count (now (widths .entry)) (now (heights .entry)) (now (homes .entry)) (now (slots .entry)))) ⌝ }
+{
+    let mut starts = [0usize; 256];
+    places::lay(count, widths, heights, &mut starts);
+    clear_way(count, widths, heights, homes, slots, &starts, pyramid, work);
+    settle(
+        count,
+        widths,
+        heights,
+        homes,
+        slots,
+        &starts,
+        picture,
+        work,
+        pyramid,
+    );
+}
+
+// The steps on the picture of a list, the pyramid as the odd slice and the work
+// slice as the even one.
+fn run(list: ChannelList, steps: Steps, picture: &[i32], pyramid: &mut [i32], work: &mut [i32])
+    requires { ⌜ (judgeList list ≡ 0) × (steps .count ≤ maxSteps) × (judgeSteps (Spec.steps steps) (channels list) ≡ 0) × (length (now picture) ≡ total (channels list)) × Alike (now picture) (now pyramid) (now work) ⌝ }
+    ensures { λ _. ⌜ now (pyramid .exit) ≡ squeezed (Spec.steps steps) (channels list) (now (picture .entry)) ⌝ }
+{
+    let mut widths = list.widths;
+    let mut heights = list.heights;
+    let mut homes = [0usize; 256];
+    let mut slots = [UNMADE; 256];
+    places::lay(list.count, &widths, &heights, &mut homes);
+    let count = squeeze_steps(
+        list,
+        steps,
+        &mut widths,
+        &mut heights,
+        &mut homes,
+        &mut slots,
+        picture,
+        pyramid,
+        work,
+    );
+    finish(
+        count,
+        &widths,
+        &heights,
+        &homes,
+        &slots,
+        picture,
+        pyramid,
+        work,
+    );
 }
 
 // The pyramid of a picture: all slices have the samples of the list, and the
@@ -184,8 +342,13 @@ pub fn write(
     if !((picture.len() == total) & ((pyramid.len() == total) & (work.len() == total))) {
         return REFUSED_LENGTH;
     }
-    buffer::copy(picture, pyramid);
-    run(list, plan::meant_steps(list, steps).steps, pyramid, work);
+    run(
+        list,
+        plan::meant_steps(list, steps).steps,
+        picture,
+        pyramid,
+        work,
+    );
     buffer::clear(work);
     0
 }

@@ -1,9 +1,11 @@
-//! Times the core against the plain Rust of `model/` and against a copy of as
-//! many samples, and prints one table.
+//! Times the core against the plain Rust of `model/`, against a copy of as many
+//! samples, and whole runs against an earlier commit's archive where there is one
+//! (`bench/runs.sh`).
 //!
 //! `cargo run --release --example bench -- [SECONDS]` spends about so many
 //! seconds on each row (2 if not given).
 
+mod before;
 mod clock;
 mod plans;
 
@@ -15,11 +17,13 @@ use squeeze_model as model;
 use std::hint::black_box;
 use std::time::{Duration, Instant};
 
-/// Nanoseconds per sample: core, plain Rust, copy.
+/// Nanoseconds per sample: core, plain Rust, copy, and the core of an earlier
+/// commit.
 struct Times {
     ours: f64,
     plain: f64,
     copy: f64,
+    before: Option<f64>,
 }
 
 const SIDES: [usize; 4] = [64, 1024, 2048, 4096];
@@ -42,10 +46,21 @@ fn main() {
     );
     println!();
     println!(
-        "{:<16} {:>11} {:>9} {:>9} {:>9} {:>9} {:>9}",
-        "", "samples", "/ plain", "/ copy", "ours ns", "plain ns", "copy ns"
+        "{:<16} {:>11} {:>9} {:>9} {:>9} {:>9} {:>9} {:>9} {:>9}",
+        "", "samples", "/ plain", "/ copy", "/ before", "ours ns", "plain ns", "copy ns", "before ns"
     );
     let rows: Vec<[Times; 4]> = SIDES.iter().map(|&side| measure(side, budget)).collect();
+    let runs = [
+        plans::chroma(64),
+        plans::chroma(591),
+        plans::chroma(2364),
+        plans::out_of_place(),
+        plans::pairs_of_128(),
+        plans::to_256(),
+    ];
+    for plan in &runs {
+        measure_plan(plan, budget);
+    }
     let costly = [
         plans::idle(true),
         plans::idle(false),
@@ -132,7 +147,7 @@ fn tile(horizontal: bool, side: usize, picture: &[i32], budget: Duration) -> Tim
         let answer = model::tile::tile(&plain_sizes, &avg, &residual, &[], &[], out);
         assert_eq!(answer, 0);
     };
-    race(picture, picture, ours, plain, budget)
+    race(picture, picture, ours, plain, None, budget)
 }
 
 fn rebuild(record: &[u8], picture: &[i32], budget: Duration) -> Times {
@@ -143,7 +158,12 @@ fn rebuild(record: &[u8], picture: &[i32], budget: Duration) -> Times {
     let plain = |out: &mut [i32], work: &mut [i32]| {
         assert_eq!(model::run::rebuild(record, &pyramid, out, work), 0);
     };
-    race(picture, picture, ours, plain, budget)
+    let before = before::RUNS.map(|[rebuild, _]| {
+        let pyramid = &pyramid;
+        move |out: &mut [i32], work: &mut [i32]| rebuild(record, pyramid, out, work)
+    });
+    let before = before.as_ref().map(|run| run as &dyn Fn(&mut [i32], &mut [i32]));
+    race(picture, picture, ours, plain, before, budget)
 }
 
 fn write(record: &[u8], picture: &[i32], budget: Duration) -> Times {
@@ -154,7 +174,11 @@ fn write(record: &[u8], picture: &[i32], budget: Duration) -> Times {
     let plain = |out: &mut [i32], work: &mut [i32]| {
         assert_eq!(model::run::write(record, picture, out, work), 0);
     };
-    race(picture, &pyramid, ours, plain, budget)
+    let before = before::RUNS.map(|[_, write]| {
+        move |out: &mut [i32], work: &mut [i32]| write(record, picture, out, work)
+    });
+    let before = before.as_ref().map(|run| run as &dyn Fn(&mut [i32], &mut [i32]));
+    race(picture, &pyramid, ours, plain, before, budget)
 }
 
 /// Best time of each, taken in turns, after one untimed call of each whose
@@ -164,6 +188,7 @@ fn race(
     expected: &[i32],
     ours: impl Fn(&mut [i32], &mut [i32]),
     plain: impl Fn(&mut [i32], &mut [i32]),
+    before: Option<&dyn Fn(&mut [i32], &mut [i32])>,
     budget: Duration,
 ) -> Times {
     let number = picture.len();
@@ -174,10 +199,14 @@ fn race(
     plain(&mut plain_out, &mut plain_work);
     assert!(out == expected, "the core's output is another");
     assert!(plain_out == expected, "plain Rust's output is another");
+    if let Some(before) = before {
+        before(&mut plain_out, &mut plain_work);
+        assert!(plain_out == expected, "the earlier core's output is another");
+    }
     target.copy_from_slice(picture);
     // Several calls make one measurement where a call is short.
     let calls = (1usize << 18).div_ceil(number);
-    let mut best = [f64::INFINITY; 3];
+    let mut best = [f64::INFINITY; 4];
     let start = Instant::now();
     let mut rounds = 0;
     while rounds < 3 || start.elapsed() < budget {
@@ -187,10 +216,18 @@ fn race(
             target.copy_from_slice(black_box(picture));
             black_box(&mut target);
         }));
+        if let Some(before) = before {
+            best[3] = best[3].min(time(calls, || before(&mut plain_out, &mut plain_work)));
+        }
         rounds += 1;
     }
-    let [ours, plain, copy] = best.map(|seconds| seconds * 1e9 / (calls * number) as f64);
-    Times { ours, plain, copy }
+    let [ours, plain, copy, last] = best.map(|seconds| seconds * 1e9 / (calls * number) as f64);
+    Times {
+        ours,
+        plain,
+        copy,
+        before: before.map(|_| last),
+    }
 }
 
 fn time(calls: usize, mut run: impl FnMut()) -> f64 {
@@ -202,11 +239,19 @@ fn time(calls: usize, mut run: impl FnMut()) -> f64 {
 }
 
 fn print_row(name: &str, samples: &str, times: &Times) {
-    let Times { ours, plain, copy } = *times;
+    let Times {
+        ours,
+        plain,
+        copy,
+        before,
+    } = *times;
+    let cell = |number: Option<f64>| number.map_or("-".into(), |number| format!("{number:.3}"));
     println!(
-        "{name:<16} {samples:>11} {:>9.2} {:>9.2} {ours:>9.3} {plain:>9.3} {copy:>9.3}",
+        "{name:<16} {samples:>11} {:>9.2} {:>9.2} {:>9} {ours:>9.3} {plain:>9.3} {copy:>9.3} {:>9}",
         ours / plain,
         ours / copy,
+        cell(before.map(|before| ours / before)),
+        cell(before),
     );
 }
 
@@ -225,6 +270,10 @@ fn print_ratios(rows: &[[Times; 4]]) {
         let ours = large[k].ours / million[k].ours;
         let plain = large[k].plain / million[k].plain;
         println!("  {name}: ours {ours:.2}, plain {plain:.2}");
+    }
+    println!("write over rebuild:");
+    for (side, row) in SIDES.iter().zip(rows) {
+        println!("  {side} x {side}: {:.2}", row[3].ours / row[2].ours);
     }
     println!("rebuild at 4096 x 4096 over one tile call by rows and one by columns:");
     let ours = large[2].ours / (large[0].ours + large[1].ours);

@@ -1,5 +1,8 @@
 //! Plans on 16 million samples that cost more than the default plan.
 
+// Two programs include this file, and each uses some of it.
+#![allow(dead_code)]
+
 use squeeze::{Channel, Record, Step};
 use squeeze_compare::lists::model_step;
 use squeeze_model::list;
@@ -124,4 +127,36 @@ pub fn doubled(width: u16, height: u16, horizontal: &[bool], in_place: bool) -> 
         horizontal.iter().map(letter).collect::<String>(),
         place(in_place)
     ))
+}
+
+/// Three channels of one size, by the default plan: chroma steps first.
+pub fn chroma(side: u16) -> Plan {
+    Draft::new(&[Channel::new(side, side); 3]).finish(format!("three channels {side} x {side}"))
+}
+
+/// 64 steps not in place on one channel: each in the first half of the list as it
+/// then is, by turns horizontal and vertical.
+pub fn out_of_place() -> Plan {
+    let draft = Draft::new(&[Channel::new(4096, 4096)]);
+    let draft = (0..64).fold(draft, |draft, k| {
+        draft.step((k % 2 == 0, false, k / 2, 1)).expect("accepted")
+    });
+    draft.finish("64 steps not in place, one channel".into())
+}
+
+/// 64 steps not in place on 128 channels, two at a time.
+pub fn pairs_of_128() -> Plan {
+    let draft = Draft::new(&[Channel::new(512, 256); 128]);
+    let draft = (0..64).fold(draft, |draft, k| {
+        draft.step((k % 2 == 0, false, 2 * k, 2)).expect("accepted")
+    });
+    draft.finish("64 steps not in place, 128 channels".into())
+}
+
+/// One step in place on 128 channels, which leaves 256.
+pub fn to_256() -> Plan {
+    let draft = Draft::new(&[Channel::new(512, 256); 128]);
+    draft
+        .double(true, true)
+        .finish("256 channels from 128".into())
 }

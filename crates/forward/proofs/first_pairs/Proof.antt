@@ -1,16 +1,15 @@
--- `first_pairs` meets its contract: a stretch across all lines (`row-firsts` of proofs/Across.antt). Assumes nothing.
-use mathlib.Core.Path.{_∙_}
+-- `first_pairs` meets its contract: a stretch across all lines (`first-put` of proofs/Across.antt). Assumes nothing.
 use Prim.Native.Nat.{_<_}
 use native.Mathlib.Omega.{arith}
 use borrow.Author.Needs.{needs}
 use Rattle.forward.proofs.Nexts.{first-inside, second-inside}
-use Rattle.forward.proofs.Across.{row-begins, reach-across, row-firsts}
+use Rattle.forward.proofs.Across.{row-begins, reach-across, row-ends, first-put}
 use Rattle.forward.proofs.first_pairs.Statement.{statement}
 use Rattle.forward.proofs.first_pairs.Tie as tie
 
 -- what stands for the pair after lies inside
 third-inside : (c : tie.After-next-first) → c .next-first .result < c .before .args .size
-third-inside c = rw (c .next-first .ensures) (first-inside (c .before .args .size) 0 (c .before .pre .1))
+third-inside c = rw (c .next-first .ensures) (first-inside (c .before .args .size) 0 (c .before .pre .3))
 
 fourth-inside : (c : tie.After-next-second) → c .next-second .result < c .before .before .args .size
 fourth-inside c =
@@ -53,11 +52,14 @@ first-stretch-requires c κs =
     let places = p1 .before in
     let start = places .before .before in
     let a = start .args in
-    rw (p1 .samples-from .ensures, p2 .samples-from2 .ensures, p3 .samples-from3 .ensures, p4 .samples-from4 .ensures, start .pre .2) (
+    let ends = row-ends (a .lines) (a .size) (a .xs .now) 0 (start .pre .3) (start .pre .2) (start .pre .1) in
+    rw (p1 .samples-from .ensures, p2 .samples-from2 .ensures, p3 .samples-from3 .ensures, p4 .samples-from4 .ensures) (
       reach-across (a .lines) (a .size) (a .xs .now) (start .pre .0) _ (omega arith),
       reach-across (a .lines) (a .size) (a .xs .now) (start .pre .0) _ (omega arith),
       reach-across (a .lines) (a .size) (a .xs .now) (start .pre .0) _ (third-inside (places .before)),
       reach-across (a .lines) (a .size) (a .xs .now) (start .pre .0) _ (fourth-inside places),
+      omega arith,
+      omega arith,
     )
 
 same-length : tie.Need-same-length
@@ -73,8 +75,8 @@ returns c =
     let start = places .before .before in
     let a = start .args in
     let e = rw (p1 .samples-from .ensures, p2 .samples-from2 .ensures, p3 .samples-from3 .ensures, p4 .samples-from4 .ensures) at (c .before .first-stretch .ensures) in
-    let made = rw (start .pre .2, places .next-second .ensures, places .before .next-first .ensures) at e in
-    made .0 ∙ row-firsts (a .lines) (a .size) (a .xs .now) (start .pre .1) (made .1)
+    let made = rw (places .next-second .ensures, places .before .next-first .ensures) at e in
+    first-put (a .lines) (a .size) (a .xs .now) (a .r) (start .pre .3) (start .pre .2) (made .1) (made .0)
 
 pub first-pairs-spec : {M : Type 1} → statement M
 first-pairs-spec =

@@ -1,24 +1,31 @@
--- `last_pairs` meets its contract: a stretch across all lines (`row-lasts` of proofs/Across.antt). Assumes nothing.
-use mathlib.Core.Path.{_∙_}
-use Prim.Native.Nat.{_<_}
+-- `last_pairs` meets its contract: a stretch across all lines (`row-put` of proofs/Across.antt), with what stands for the pair after it. Assumes
+-- nothing.
+use Prim.Native.Nat.{_+_, _-_, _*_, _<_, _≤_}
 use native.Mathlib.Omega.{arith}
 use borrow.Author.Needs.{needs}
+use lib.ListN.{length}
+use Rattle.forward.specs.Rows.{nextFirst, nextSecond}
+use Rattle.forward.proofs.Puts.{part-length}
 use Rattle.forward.proofs.Nexts.{first-inside, second-inside}
-use Rattle.forward.proofs.Across.{row-begins, reach-across, row-lasts}
+use Rattle.forward.proofs.Across.{row-begins, reach-across, row-ends, row-put, last-row}
 use Rattle.forward.proofs.last_pairs.Statement.{statement}
 use Rattle.forward.proofs.last_pairs.Tie as tie
 
 -- what stands for the pair after lies inside
 third-inside : (c : tie.After-next-first) → c .next-first .result < c .before .args .size
-third-inside c = rw (c .next-first .ensures) (first-inside (c .before .args .size) (c .before .args .last) (c .before .pre .2))
+third-inside c = rw (c .next-first .ensures) (first-inside (c .before .args .size) (c .before .args .last) (c .before .pre .4))
 
 fourth-inside : (c : tie.After-next-second) → c .next-second .result < c .before .before .args .size
 fourth-inside c =
     let first = c .before in
     rw (c .next-second .ensures) (second-inside (first .before .args .size) (first .next-first .result) (third-inside first))
 
+-- and so do the rows that are written
+ends : (c : tie.Start) → let a = c .args in (a .last * a .lines + a .lines ≤ a .r) × (a .r + (a .last * a .lines + a .lines) ≤ length (a .out .now))
+ends c = let a = c .args in row-ends (a .lines) (a .size) (a .xs .now) (a .last) (c .pre .4) (c .pre .2) (c .pre .1)
+
 next-first-requires : tie.Need-next-first-requires
-next-first-requires c κs = c .pre .2
+next-first-requires c κs = c .pre .4
 
 next-second-requires : tie.Need-next-second-requires
 next-second-requires c κs = third-inside c
@@ -73,8 +80,23 @@ samples-from-requires-5 c κs =
     let a = start .args in
     row-begins (a .lines) (a .size) (a .xs .now) (start .pre .0) _ (omega (arith, fourth-inside places))
 
-residual-stretch-requires : tie.Need-residual-stretch-requires
-residual-stretch-requires c κs =
+mul-squeeze-stretch : tie.Need-mul-squeeze-stretch
+mul-squeeze-stretch c = omega (arith, ends (c .before .before .before .before .before .before .before))
+
+mul-squeeze-stretch-2 : tie.Need-mul-squeeze-stretch-2
+mul-squeeze-stretch-2 c = omega (arith, ends (c .before .before .before .before .before .before .before))
+
+sub-squeeze-stretch : tie.Need-sub-squeeze-stretch
+sub-squeeze-stretch c = omega (arith, ends (c .before .before .before .before .before .before .before))
+
+part-squeeze-stretch-start : tie.Need-part-squeeze-stretch-start
+part-squeeze-stretch-start c = omega (arith, ends (c .before .before .before .before .before .before .before))
+
+part-squeeze-stretch-end : tie.Need-part-squeeze-stretch-end
+part-squeeze-stretch-end c = search needs
+
+squeeze-stretch-requires : tie.Need-squeeze-stretch-requires
+squeeze-stretch-requires c κs =
     let p5 = c .before in
     let p4 = p5 .before in
     let p3 = p4 .before in
@@ -83,12 +105,16 @@ residual-stretch-requires c κs =
     let places = p1 .before in
     let start = places .before .before in
     let a = start .args in
-    rw (p1 .samples-from .ensures, p2 .samples-from2 .ensures, p3 .samples-from3 .ensures, p4 .samples-from4 .ensures, p5 .samples-from5 .ensures, start .pre .3) (
+    let s = a .last * a .lines in
+    let n = length (a .out .now) in
+    rw (p1 .samples-from .ensures, p2 .samples-from2 .ensures, p3 .samples-from3 .ensures, p4 .samples-from4 .ensures, p5 .samples-from5 .ensures, part-length s (n - s) (a .out .now) (omega (arith, ends start))) (
       reach-across (a .lines) (a .size) (a .xs .now) (start .pre .0) _ (omega arith),
       reach-across (a .lines) (a .size) (a .xs .now) (start .pre .0) _ (omega arith),
       reach-across (a .lines) (a .size) (a .xs .now) (start .pre .0) _ (omega arith),
       reach-across (a .lines) (a .size) (a .xs .now) (start .pre .0) _ (third-inside (places .before)),
       reach-across (a .lines) (a .size) (a .xs .now) (start .pre .0) _ (fourth-inside places),
+      omega (arith, ends start),
+      omega (arith, ends start),
     )
 
 same-length : tie.Need-same-length
@@ -104,10 +130,13 @@ returns c =
     let places = p1 .before in
     let start = places .before .before in
     let a = start .args in
-    let e = rw (p1 .samples-from .ensures, p2 .samples-from2 .ensures, p3 .samples-from3 .ensures) at (c .before .residual-stretch .ensures) in
+    let third = nextFirst (a .size) (a .last) in
+    let e = rw (p1 .samples-from .ensures, p2 .samples-from2 .ensures, p3 .samples-from3 .ensures) at (c .before .squeeze-stretch .ensures) in
     let f = rw (p4 .samples-from4 .ensures, p5 .samples-from5 .ensures) at e in
-    let made = rw (start .pre .3, places .next-second .ensures, places .before .next-first .ensures) at f in
-    made .0 ∙ row-lasts (a .lines) (a .size) (a .xs .now) (a .last) (start .pre .1) (start .pre .2) (made .1)
+    let made = rw (places .next-second .ensures, places .before .next-first .ensures) at f in
+    row-put (a .lines) (a .size) (a .xs .now) (a .last) (start .pre .4) third (nextSecond (a .size) third) (a .r)
+    (length (a .out .now) - a .last * a .lines) (a .out .now) _ (start .pre .3) (start .pre .2) (start .pre .1) (omega (arith, ends start))
+    (last-row (a .lines) (a .size) (a .xs .now) (a .last) (start .pre .4) (made .1)) (made .0)
 
 pub last-pairs-spec : {M : Type 1} → statement M
 last-pairs-spec =
@@ -125,6 +154,11 @@ last-pairs-spec =
     samples-from-requires-3
     samples-from-requires-4
     samples-from-requires-5
-    residual-stretch-requires
+    mul-squeeze-stretch
+    mul-squeeze-stretch-2
+    sub-squeeze-stretch
+    part-squeeze-stretch-start
+    part-squeeze-stretch-end
+    squeeze-stretch-requires
     same-length
     returns)

@@ -1,4 +1,4 @@
--- `slices_fit` meets its contract: not if a side is too long, else the products fit a `usize`. Assumes nothing.
+-- `slices_fit` meets its contract: not if a side is too long, else the product fits a `usize`. Assumes nothing.
 use Prim.Native.Nat.{_*_, _≤_}
 use native.Mathlib.Omega.{arith}
 use native.Mathlib.Nat.{mul-le-mul}
@@ -23,15 +23,8 @@ returns-2 c =
     let a = c .before .before .args in
     rw (le-leb (a .lines) maxSide (c .before .if1 .left), lt-leb (a .size) maxSide (c .if2 .taken))
 
-mul-result : tie.Need-mul-result
-mul-result c = omega (arith, small c)
-
-mul-result-2 : tie.Need-mul-result-2
-mul-result-2 c =
-    let a = c .before .before .args in
-    let s : a .count ≤ maxSide = omega arith in
-    let p : a .lines * a .count ≤ maxSide * maxSide = mul-le-mul (c .before .if1 .left) s in
-    omega arith
+mul-samples : tie.Need-mul-samples
+mul-samples c = omega (arith, small c)
 
 returns-3 : tie.Need-returns-3
 unfolding slicesFit
@@ -40,4 +33,4 @@ returns-3 c =
     rw (le-leb (a .lines) maxSide (c .before .if1 .left), le-leb (a .size) maxSide (c .if2 .left))
 
 pub slices-fit-spec : {M : Type 1} → statement M
-slices-fit-spec = tie.close (tie.spec returns returns-2 mul-result mul-result-2 returns-3)
+slices-fit-spec = tie.close (tie.spec returns returns-2 mul-samples returns-3)

@@ -13,21 +13,26 @@ use Rattle.listing.proofs.put_channels.Statement.{statement}
 use Rattle.listing.proofs.put_channels.Tie as tie
 
 abbrev Inv-loop : tie.InvT-loop
-Inv-loop list at text₀ count end₀ k₀ text end k = Lines channelLine (channelAt list) count at text₀ text end k × (end ≤ at + channelRoom * k)
+Inv-loop at text₀ list count end₀ k₀ text end k = Lines channelLine (channelAt list) count at text₀ text end k × (end ≤ at + channelRoom * k)
 
 abbrev μ-loop : tie.MeasureT-loop
-μ-loop list at text₀ count end₀ k₀ text end k = count - k
+μ-loop at text₀ list count end₀ k₀ text end k = count - k
 
 loop-holds : tie.Need-loop-holds Inv-loop μ-loop
-loop-holds c = let g = c .before .args in (lines-none channelLine (channelAt (g .list)) _ _ _ (omega arith), omega arith)
+loop-holds c = let g = c .before .args in (lines-none channelLine (channelAt (g .t1)) _ _ _ (omega arith), omega arith)
 
-channel-requires : tie.Need-channel-requires Inv-loop μ-loop
-channel-requires c κs = search needs
+entry-of-requires : tie.Need-entry-of-requires Inv-loop μ-loop
+entry-of-requires c κs = search needs
+
+-- the turn of the loop in which a channel was found
+abbrev turn : tie.After-entry-of Inv-loop μ-loop → tie.In-loop Inv-loop μ-loop
+turn c = c .before .before .before .before .before .before
 
 put-channel-requires : tie.Need-put-channel-requires Inv-loop μ-loop
 put-channel-requires c κs =
-    let q = c .before .before .before in
-    omega (arith, put-length (q .loop .inv .0 .put), q .loop .inv .0 .inside, c .before .before .loop-test .taken, q .loop .inv .1, q .before .before .pre .1)
+    let t = turn (c .before) in
+    let q = t .before in
+    omega (arith, put-length (q .loop .inv .0 .put), q .loop .inv .0 .inside, t .loop-test .taken, q .loop .inv .1, q .before .before .pre .1)
 
 add-k : tie.Need-add-k Inv-loop μ-loop
 add-k c = search needs
@@ -39,10 +44,11 @@ loop-again : tie.Need-loop-again Inv-loop μ-loop
 loop-again c =
     let p = c .before .before in
     let s = p .before .before in
-    let q = s .before .before in
+    let t = turn s in
+    let q = t .before in
     let g = q .before .before .args in
-    let e = ap channelLine (s .channel .ensures) in
-    (lines-more channelLine (channelAt (g .list)) _ _ _ _ _ _ (q .loop .inv .0) (s .before .loop-test .taken) _ _ (rw e at (p .put-channel .ensures .0)), omega (arith, p .put-channel .ensures .1, q .loop .inv .1))
+    let e = ap channelLine {y = channelAt (g .t1) (q .loop .k)} (s .entry-of .ensures) in
+    (lines-more channelLine (channelAt (g .t1)) _ _ _ _ _ _ (q .loop .inv .0) (t .loop-test .taken) _ _ (rw e at (p .put-channel .ensures .0)), omega (arith, p .put-channel .ensures .1, q .loop .inv .1))
 
 same-length : tie.Need-same-length Inv-loop μ-loop
 same-length c = put-length (c .before .loop .inv .0 .put)
@@ -52,8 +58,8 @@ returns c =
     let q = c .before in
     let s = q .before .before in
     let g = s .args in
-    let all = lines-all channelLine (channelAt (g .list)) _ _ _ _ _ _ (q .loop .inv .0) (c .loop-test .left) in
-    (rw (ap (joined channelLine) (channels-are (g .list) (s .pre .0))) at all, omega (arith, q .loop .inv .0 .inside, q .loop .inv .1))
+    let all = lines-all channelLine (channelAt (g .t1)) _ _ _ _ _ _ (q .loop .inv .0) (c .loop-test .left) in
+    (rw (ap (joined channelLine) (channels-are (g .t1) (s .pre .0))) at all, omega (arith, q .loop .inv .0 .inside, q .loop .inv .1))
 
 pub put-channels-spec : {M : Type 1} → statement M
 put-channels-spec =
@@ -62,7 +68,7 @@ put-channels-spec =
     Inv-loop
     μ-loop
     loop-holds
-    channel-requires
+    entry-of-requires
     put-channel-requires
     add-k
     loop-less

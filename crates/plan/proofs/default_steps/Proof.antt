@@ -12,26 +12,35 @@ use Rattle.plan.proofs.Packed.{packed-count, packed-room, packed-both}
 use Rattle.plan.proofs.default_steps.Statement.{statement}
 use Rattle.plan.proofs.default_steps.Tie as tie
 
-parts : (c : tie.After-channel2)
-    → Parted stoppingSide (c .before .before .before .args .list) (c .before .before .meta-count .result) (c .before .channel .result) (c .channel2 .result)
+-- where the first of the channels that are not meta was found
+abbrev first : tie.After-entry-of2 → tie.After-entry-of
+first c = c .before .before .before .before .before .before
+
+-- and where the meta channels were counted
+abbrev metas : tie.After-entry-of → tie.After-meta-count
+metas c = c .before .before .before .before .before .before
+
+parts : (c : tie.After-entry-of2)
+    → let f = first c in
+    let m = metas f in
+    Parted stoppingSide (m .before .args .t1) (m .meta-count .result) (f .entry-of .result) (c .entry-of2 .result)
 parts c =
-    let start = c .before .before .before in
-    let first = c .before .channel in
-    let metas = c .before .before .meta-count in
-    parted (start .args .list) (start .pre .0) (metas .result) (first .result) (c .channel2 .result) (metas .ensures) (search needs) (first .ensures)
-    (c .channel2 .ensures) stoppingSide stops (first .ok .1 .1 .0 .1) (first .ok .1 .1 .1 .0 .1)
+    let f = first c .entry-of in
+    let m = metas (first c) in
+    parted (m .before .args .t1) (m .before .pre .0) (m .meta-count .result) (f .result) (c .entry-of2 .result) (m .meta-count .ensures) (search needs) (f .ensures)
+    (c .entry-of2 .ensures) stoppingSide stops (f .ok .1 .1 .0 .1) (f .ok .1 .1 .1 .0 .1)
 
 meta-count-requires : tie.Need-meta-count-requires
 meta-count-requires c κs = search needs
 
-channel-requires : tie.Need-channel-requires
-channel-requires c κs = search needs
+entry-of-requires : tie.Need-entry-of-requires
+entry-of-requires c κs = search needs
 
-add-channel : tie.Need-add-channel
-add-channel c = search needs
+add-j : tie.Need-add-j
+add-j c = search needs
 
-channel-requires-2 : tie.Need-channel-requires-2
-channel-requires-2 c κs = search needs
+entry-of-requires-2 : tie.Need-entry-of-requires-2
+entry-of-requires-2 c κs = search needs
 
 cast-m : tie.Need-cast-m
 cast-m c = search needs
@@ -49,11 +58,11 @@ chroma-requires : tie.Need-chroma-requires
 chroma-requires c κs = omega (arith, packed-count _ [] (c .empty .ensures))
 
 all-channels-requires : tie.Need-all-channels-requires
-all-channels-requires c κs = packed-room _ _ (parts (c .before .before .before) .room) _ _ (c .before .empty .ensures) (c .chroma .ensures)
+all-channels-requires c κs = packed-room _ _ (parts (c .before .before) .room) _ _ (c .before .empty .ensures) (c .chroma .ensures)
 
 returns : tie.Need-returns
 returns c =
-    let p = parts (c .before .before .before .before) in
+    let p = parts (c .before .before .before) in
     let e = packed-both _ _ (p .room) _ _ (c .before .before .empty .ensures) (c .before .chroma .ensures) _ (c .all-channels .ensures) in
     (e ∙ ap packed (p .so), omega (arith, packed-count _ _ e, p .room))
 
@@ -62,9 +71,9 @@ default-steps-spec =
     tie.close
     (tie.spec
     meta-count-requires
-    channel-requires
-    add-channel
-    channel-requires-2
+    entry-of-requires
+    add-j
+    entry-of-requires-2
     cast-m
     sub-n
     cast-n

@@ -8,24 +8,29 @@ use Rattle.plan.proofs.leading.Statement.{statement}
 use Rattle.plan.proofs.leading.Tie as tie
 
 abbrev Inv-loop : tie.InvT-loop
-Inv-loop list which count k₀ k = Passed (isCounted which) list k
+Inv-loop which list count k₀ k = Passed (isCounted which) list k
 
 abbrev μ-loop : tie.MeasureT-loop
-μ-loop list which count k₀ k = maxChannels - k
+μ-loop which list count k₀ k = maxChannels - k
 
 loop-holds : tie.Need-loop-holds Inv-loop μ-loop
 loop-holds c = passed-none (isCounted _) _
 
-channel-requires : tie.Need-channel-requires Inv-loop μ-loop
-channel-requires c κs = search needs
+entry-of-requires : tie.Need-entry-of-requires Inv-loop μ-loop
+entry-of-requires c κs = search needs
 
 is-counted-requires : tie.Need-is-counted-requires Inv-loop μ-loop
 is-counted-requires c κs = search needs
 
+-- the turn of the loop in which a channel was found
+abbrev turn : tie.After-entry-of Inv-loop μ-loop → tie.In-loop Inv-loop μ-loop
+turn c = c .before .before .before .before .before .before
+
 returns : tie.Need-returns Inv-loop μ-loop
 returns c =
-    let at = c .before .before .before .before in
-    passed-stop (isCounted _) _ (at .loop .k) _ _ (search needs) (c .before .before .channel .ensures) (c .before .is-counted .ensures) (at .loop .inv) (c .if1 .taken)
+    let v = c .before .before in
+    let at = turn v .before in
+    passed-stop (isCounted _) _ (at .loop .k) _ _ (search needs) (v .entry-of .ensures) (c .before .is-counted .ensures) (at .loop .inv) (c .if1 .taken)
 
 add-k : tie.Need-add-k Inv-loop μ-loop
 add-k c = search needs
@@ -35,8 +40,9 @@ loop-less c = search needs
 
 loop-again : tie.Need-loop-again Inv-loop μ-loop
 loop-again c =
-    let at = c .before .before .before .before in
-    passed-more (isCounted _) _ (at .loop .k) _ _ (search needs) (c .before .before .channel .ensures) (c .before .is-counted .ensures) (at .loop .inv) (c .if1 .left)
+    let v = c .before .before in
+    let at = turn v .before in
+    passed-more (isCounted _) _ (at .loop .k) _ _ (search needs) (v .entry-of .ensures) (c .before .is-counted .ensures) (at .loop .inv) (c .if1 .left)
 
 returns-2 : tie.Need-returns-2 Inv-loop μ-loop
 returns-2 c = passed-all (isCounted _) _ _ (search needs) (c .before .loop .inv)
@@ -48,7 +54,7 @@ leading-spec =
     Inv-loop
     μ-loop
     loop-holds
-    channel-requires
+    entry-of-requires
     is-counted-requires
     returns
     add-k

@@ -21,13 +21,13 @@ loop-holds c = reached-none _ _ (c .before .pre .0) (c .before .pre .1) _ (c .ti
 step-requires : tie.Need-step-requires Inv-loop μ-loop
 step-requires c κs = search needs
 
-step-requires-2 : tie.Need-step-requires-2 Inv-loop μ-loop
-step-requires-2 c κs = search needs
+step-on-requires : tie.Need-step-on-requires Inv-loop μ-loop
+step-on-requires c κs = search needs
 
 returns : tie.Need-returns Inv-loop μ-loop
 returns c =
     let q = c .before .before .before in
-    reached-stop _ _ _ _ (q .before .loop .inv) (search needs) _ (c .before .before .step .ensures) _ (c .before .step2 .ensures) (c .if1 .taken)
+    reached-stop _ _ _ _ (q .before .loop .inv) (search needs) _ (c .before .before .step .ensures) _ (c .before .step-on .ensures) (c .if1 .taken)
 
 add-k : tie.Need-add-k Inv-loop μ-loop
 add-k c = search needs
@@ -38,7 +38,7 @@ loop-less c = search needs
 loop-again : tie.Need-loop-again Inv-loop μ-loop
 loop-again c =
     let q = c .before .before .before .before in
-    reached-more _ _ _ _ (q .before .loop .inv) (search needs) _ (c .before .before .before .step .ensures) _ (c .before .before .step2 .ensures) (c .before .if1 .left)
+    reached-more _ _ _ _ (q .before .loop .inv) (search needs) _ (c .before .before .before .step .ensures) _ (c .before .before .step-on .ensures) (c .before .if1 .left)
 
 returns-2 : tie.Need-returns-2 Inv-loop μ-loop
 returns-2 c = reached-all _ _ _ _ (c .loop-test .left) (c .before .loop .inv)
@@ -52,7 +52,7 @@ run-spec =
     tidied-requires
     loop-holds
     step-requires
-    step-requires-2
+    step-on-requires
     returns
     add-k
     loop-less

@@ -1,10 +1,10 @@
 -- `tidied` meets its contract: up to k the arrays hold the channels of the list, and zeros after them. Assumes nothing.
-use mathlib.Core.Path.{sym, _∙_}
+use mathlib.Core.Path.{sym}
 use Prim.Native.Nat.{_-_, _≤_}
 use native.Mathlib.Omega.{arith}
 use borrow.Author.Needs.{needs}
 use Rattle.list.specs.Lists.{maxChannels, channels}
-use Rattle.list.proofs.Channels.{channels-at}
+use Rattle.list.proofs.Channels.{found-at}
 use Rattle.list.proofs.Filled.{Filling, filling-none, filling-stored, filling-all}
 use Rattle.plan.proofs.Counts.{counted-all}
 use Rattle.plan.proofs.tidied.Statement.{statement}
@@ -19,8 +19,8 @@ abbrev μ-loop : tie.MeasureT-loop
 loop-holds : tie.Need-loop-holds Inv-loop μ-loop
 loop-holds c = (c .pre, omega arith, filling-none _)
 
-channel-requires : tie.Need-channel-requires Inv-loop μ-loop
-channel-requires c κs = search needs
+entry-of-requires : tie.Need-entry-of-requires Inv-loop μ-loop
+entry-of-requires c κs = search needs
 
 store-requires : tie.Need-store-requires Inv-loop μ-loop
 store-requires c κs = search needs
@@ -34,17 +34,17 @@ loop-less c = search needs
 loop-again : tie.Need-loop-again Inv-loop μ-loop
 loop-again c =
     let e = c .before .before .before .before .before in
-    let q = e .before .before in
+    let q = e .before .before .before .before .before .before .before in
     let i = q .loop .inv in
-    let l = q .before .args .list in
-    let is = e .channel .ensures ∙ channels-at l (q .loop .k) (omega (arith, counted-all l (i .0))) in
-    (i .0, omega arith, filling-stored _ _ _ _ _ _ (i .2) (e .channel .result) (omega arith) is (c .store .ensures))
+    let l = q .before .args .t1 in
+    let is = found-at l (q .loop .k) (e .entry-of .result) (omega (arith, counted-all l (i .0))) (e .entry-of .ensures) in
+    (i .0, omega arith, filling-stored _ _ _ _ _ _ (i .2) (e .entry-of .result) (omega arith) is (c .store .ensures))
 
 returns : tie.Need-returns Inv-loop μ-loop
 returns c =
     let q = c .before in
     let i = q .loop .inv in
-    filling-all _ (q .loop .widths) (q .loop .heights) (q .loop .hshifts) (q .loop .vshifts) (q .loop .k) (i .2) _ (sym (counted-all (q .before .args .list) (i .0)))
+    filling-all _ (q .loop .widths) (q .loop .heights) (q .loop .hshifts) (q .loop .vshifts) (q .loop .k) (i .2) _ (sym (counted-all (q .before .args .t1) (i .0)))
     (c .loop-test .left)
 
 pub tidied-spec : {M : Type 1} → statement M
@@ -54,7 +54,7 @@ tidied-spec =
     Inv-loop
     μ-loop
     loop-holds
-    channel-requires
+    entry-of-requires
     store-requires
     add-k
     loop-less

@@ -13,19 +13,19 @@ use Rattle.record.proofs.write_channels.Statement.{statement}
 use Rattle.record.proofs.write_channels.Tie as tie
 
 abbrev Inv-loop : tie.InvT-loop
-Inv-loop list out₀ count at₀ k₀ out at k = Putting channelField (channelAt list) count (channelFields (channels list)) 0 out₀ out at k
+Inv-loop out₀ list count at₀ k₀ out at k = Putting channelField (channelAt list) count (channelFields (channels list)) 0 out₀ out at k
 
 abbrev μ-loop : tie.MeasureT-loop
-μ-loop list out₀ count at₀ k₀ out at k = count - k
+μ-loop out₀ list count at₀ k₀ out at k = count - k
 
 loop-holds : tie.Need-loop-holds Inv-loop μ-loop
 loop-holds c =
     let g = c .before .args in
-    let n : g .list .count ≡ min (g .list .count) maxChannels = omega (arith, c .before .pre .0) in
-    putting-none channelField (channelAt (g .list)) _ _ _ _ (omega (arith, c .before .pre .1)) (ap (joined channelField) (channels-all (g .list) (g .list .count) n))
+    let n : g .t1 .count ≡ min (g .t1 .count) maxChannels = omega (arith, c .before .pre .0) in
+    putting-none channelField (channelAt (g .t1)) _ _ _ _ (omega (arith, c .before .pre .1)) (ap (joined channelField) (channels-all (g .t1) (g .t1 .count) n))
 
-channel-requires : tie.Need-channel-requires Inv-loop μ-loop
-channel-requires c κs = search needs
+entry-of-requires : tie.Need-entry-of-requires Inv-loop μ-loop
+entry-of-requires c κs = search needs
 
 channel-field-requires : tie.Need-channel-field-requires Inv-loop μ-loop
 channel-field-requires c κs = search needs
@@ -33,13 +33,28 @@ channel-field-requires c κs = search needs
 slice-aggregate-put-bytes : tie.Need-slice-aggregate-put-bytes Inv-loop μ-loop
 slice-aggregate-put-bytes c = search needs
 
-room : (c : tie.After-put-bytes-arg Inv-loop μ-loop) → c .before .before .before .before .before .loop .at + length (c .before .before .channel-field .result)
-    ≤ length (c .before .before .before .before .before .loop .out)
+-- the turn of the loop in which a channel was found
+abbrev turn : tie.After-entry-of Inv-loop μ-loop → tie.In-loop Inv-loop μ-loop
+turn c = c .before .before .before .before .before .before
+
+-- the field that is put
+made : (c : tie.After-channel-field Inv-loop μ-loop)
+    → let q = turn (c .before) .before in
+    c .channel-field .result ≡ channelField (channelAt (q .before .before .args .t1) (q .loop .k))
+made c =
+    let q = turn (c .before) .before in
+    c .channel-field .ensures ∙ ap channelField {y = channelAt (q .before .before .args .t1) (q .loop .k)} (c .before .entry-of .ensures)
+
+room : (c : tie.After-put-bytes-arg Inv-loop μ-loop)
+    → let f = c .before .before in
+    let q = turn (f .before) .before in
+    q .loop .at + length (f .channel-field .result) ≤ length (q .loop .out)
 room c =
     let f = c .before .before in
-    let q = f .before .before .before in
-    putting-room channelField (channelAt (q .before .before .args .list)) _ _ 0 _ (omega (arith, q .before .before .pre .1))
-    _ _ _ (q .loop .inv) (f .before .before .loop-test .taken) _ (f .channel-field .ensures ∙ ap channelField (f .before .channel .ensures))
+    let t = turn (f .before) in
+    let q = t .before in
+    putting-room channelField (channelAt (q .before .before .args .t1)) _ _ 0 _ (omega (arith, q .before .before .pre .1))
+    _ _ _ (q .loop .inv) (t .loop-test .taken) _ (made f)
 
 put-bytes-requires : tie.Need-put-bytes-requires Inv-loop μ-loop
 put-bytes-requires c κs = search needs
@@ -47,9 +62,9 @@ put-bytes-requires c κs = search needs
 add-at : tie.Need-add-at Inv-loop μ-loop
 add-at c =
     let a = c .before .before .before in
-    let q = a .before .before .before .before .before in
+    let q = turn (a .before .before .before) .before in
     let n : length (a .before .before .channel-field .result) ≡ channelSize = search needs in
-    let m = putting-length channelField (channelAt (q .before .before .args .list)) _ _ 0 _ (omega (arith, q .before .before .pre .1)) _ _ _ (q .loop .inv) in
+    let m = putting-length channelField (channelAt (q .before .before .args .t1)) _ _ 0 _ (omega (arith, q .before .before .pre .1)) _ _ _ (q .loop .inv) in
     omega (arith, room a)
 
 add-k : tie.Need-add-k Inv-loop μ-loop
@@ -62,21 +77,22 @@ loop-again : tie.Need-loop-again Inv-loop μ-loop
 loop-again c =
     let a = c .before .before .before in
     let f = a .before .before in
-    let q = f .before .before .before in
-    putting-more channelField (channelAt (q .before .before .args .list)) _ _ 0 _ (omega (arith, q .before .before .pre .1))
-    _ _ _ (q .loop .inv) (f .before .before .loop-test .taken) _ (f .channel-field .ensures ∙ ap channelField (f .before .channel .ensures)) _ channelSize (c .before .before .put-bytes .ensures) (search needs)
+    let t = turn (f .before) in
+    let q = t .before in
+    putting-more channelField (channelAt (q .before .before .args .t1)) _ _ 0 _ (omega (arith, q .before .before .pre .1))
+    _ _ _ (q .loop .inv) (t .loop-test .taken) _ (made f) _ channelSize (c .before .before .put-bytes .ensures) (search needs)
 
 same-length : tie.Need-same-length Inv-loop μ-loop
 same-length c =
     let q = c .before in
     let s = q .before .before in
-    putting-length channelField (channelAt (s .args .list)) _ _ _ _ (omega (arith, s .pre .1)) _ _ _ (q .loop .inv)
+    putting-length channelField (channelAt (s .args .t1)) _ _ _ _ (omega (arith, s .pre .1)) _ _ _ (q .loop .inv)
 
 returns : tie.Need-returns Inv-loop μ-loop
 returns c =
     let q = c .before in
     let s = q .before .before in
-    putting-all channelField (channelAt (s .args .list)) _ _ _ _ (omega (arith, s .pre .1)) _ _ _ (q .loop .inv) (c .loop-test .left)
+    putting-all channelField (channelAt (s .args .t1)) _ _ _ _ (omega (arith, s .pre .1)) _ _ _ (q .loop .inv) (c .loop-test .left)
 
 pub write-channels-spec : {M : Type 1} → statement M
 write-channels-spec =
@@ -85,7 +101,7 @@ write-channels-spec =
     Inv-loop
     μ-loop
     loop-holds
-    channel-requires
+    entry-of-requires
     channel-field-requires
     slice-aggregate-put-bytes
     put-bytes-requires

@@ -1,137 +1,130 @@
--- `squeeze_step` meets its contract: the samples before the range stay, and the others are those of the step (proofs/Flat.antt). Assumes nothing.
-use mathlib.Core.Path.{_≡_, _∙_}
-use mathlib.Core.List.{[]}
-use Prim.Native.Nat.{_-_, _≤_}
+-- `squeeze_step` meets its contract. The loop's invariant: the channels of the range before k are squeezed (`Squeezed` of specs/Standing.antt).
+-- Assumes nothing.
+use mathlib.Core.Path.{_≡_, refl, _∙_}
+use Prim.Native.Nat.{_+_, _-_, _≤_}
 use native.Mathlib.Omega.{arith}
 use borrow.Author.Needs.{needs}
 use lib.ListN.{length}
-use Rattle.list.specs.Lists.{channels, range, total}
-use Rattle.write.proofs.Sums.{range-end}
-use Rattle.write.proofs.Along.{part-length}
-use Rattle.write.proofs.Flat.{reach, in-place, at-end}
+use Rattle.places.specs.Places.{placeAt}
+use Rattle.write.specs.Standing.{Alike, Squeezed}
+use Rattle.write.proofs.Squeezing.{squeezed-none, squeezed-more}
 use Rattle.write.proofs.squeeze_step.Statement.{statement}
 use Rattle.write.proofs.squeeze_step.Tie as tie
 
-reached : (sb : tie.After-samples-before2) → let a = sb .before .before .before .before .args in
-    let from = sb .before .before .samples-before .result in
-    let to = sb .samples-before2 .result in
-    (from ≤ to) × (to ≤ length (a .pyramid .now)) × (to - from ≡ total (range (a .step) (channels (a .list))))
-reached sb =
-    let start = sb .before .before .before .before in
-    let a = start .args in
-    reach (a .step) (channels (a .list)) (a .pyramid .now) (start .pre .0 .inside) (start .pre .1) (sb .before .before .samples-before .result) (sb .samples-before2 .result) [] (sb .before .before .samples-before .ensures) (sb .samples-before2 .ensures ∙ range-end (a .step) (channels (a .list)))
+abbrev Inv-loop : tie.InvT-loop
+Inv-loop widths heights homes slots picture odd₀ even₀ horizontal begin end k₀ odd even k =
+    (begin ≤ k) × (k ≤ end) × (length odd ≡ length odd₀) × (length even ≡ length even₀)
+    × Squeezed horizontal (placeAt widths heights homes slots) begin k picture odd₀ even₀ odd even
 
-cast-begin : tie.Need-cast-begin
+abbrev μ-loop : tie.MeasureT-loop
+μ-loop widths heights homes slots picture odd₀ even₀ horizontal begin end k₀ odd even k = end - k
+
+-- the slices keep their lengths
+alike : (c : tie.At-loop Inv-loop μ-loop) → Alike (c .before .before .before .args .picture .now) (c .loop .odd) (c .loop .even)
+alike c =
+    let a = c .before .before .before .pre .0 in
+    record { odds-length = c .loop .inv .2 ∙ a .odds-length; evens-length = c .loop .inv .3 ∙ a .evens-length }
+
+cast-begin : tie.Need-cast-begin Inv-loop μ-loop
 cast-begin c = search needs
 
-samples-before-requires : tie.Need-samples-before-requires
-samples-before-requires c κs = search needs
+cast-end : tie.Need-cast-end Inv-loop μ-loop
+cast-end c = search needs
 
-cast-samples-before : tie.Need-cast-samples-before
-cast-samples-before c = search needs
+add-end : tie.Need-add-end Inv-loop μ-loop
+add-end c = search needs
 
-add-samples-before : tie.Need-add-samples-before
-add-samples-before c = search needs
+loop-holds : tie.Need-loop-holds Inv-loop μ-loop
+loop-holds c =
+    let start = c .before .before in
+    let a = start .args in
+    let end = start .pre .1 in
+    (omega arith, omega arith, refl, refl, squeezed-none (a .step .horizontal) (placeAt (a .widths .now) (a .heights .now) (a .homes .now) (a .slots .now)) (a .step .begin) 0 (a .picture .now) (a .odd .now) (a .even .now))
 
-samples-before-requires-2 : tie.Need-samples-before-requires-2
-samples-before-requires-2 c κs = search needs
+mul-squeeze-place : tie.Need-mul-squeeze-place Inv-loop μ-loop
+mul-squeeze-place c = search needs
 
-mul-squeeze-range : tie.Need-mul-squeeze-range
-mul-squeeze-range c = omega (arith, reached (c .before))
+element-copy-out-squeeze-place : tie.Need-element-copy-out-squeeze-place Inv-loop μ-loop
+element-copy-out-squeeze-place c = search needs
 
-sub-squeeze-range : tie.Need-sub-squeeze-range
-sub-squeeze-range c = omega (arith, reached (c .before))
+mul-squeeze-place-2 : tie.Need-mul-squeeze-place-2 Inv-loop μ-loop
+mul-squeeze-place-2 c = search needs
 
-part-squeeze-range-start : tie.Need-part-squeeze-range-start
-part-squeeze-range-start c = omega (arith, reached (c .before))
+element-copy-out-squeeze-place-2 : tie.Need-element-copy-out-squeeze-place-2 Inv-loop μ-loop
+element-copy-out-squeeze-place-2 c = search needs
 
-part-squeeze-range-end : tie.Need-part-squeeze-range-end
-part-squeeze-range-end c = omega (arith, reached (c .before))
+mul-squeeze-place-3 : tie.Need-mul-squeeze-place-3 Inv-loop μ-loop
+mul-squeeze-place-3 c = search needs
 
-squeeze-range-requires : tie.Need-squeeze-range-requires
-squeeze-range-requires c κs =
-    let sb = c .before .before .before in
-    let start = sb .before .before .before .before in
-    let r = reached sb in
-    let from = sb .before .before .samples-before .result in
-    let n = sb .samples-before2 .result - from in
-    let l = part-length from n (start .args .pyramid .now) (omega arith) in
-    (start .pre .0 .inside, l ∙ r .2, omega (arith, start .pre .1, start .pre .2))
+element-copy-out-squeeze-place-3 : tie.Need-element-copy-out-squeeze-place-3 Inv-loop μ-loop
+element-copy-out-squeeze-place-3 c = search needs
 
-sub-squeeze-rest : tie.Need-sub-squeeze-rest
-sub-squeeze-rest c = omega (arith, reached (c .before))
+element-copy-out-squeeze-place-4 : tie.Need-element-copy-out-squeeze-place-4 Inv-loop μ-loop
+element-copy-out-squeeze-place-4 c = search needs
 
-mul-squeeze-rest : tie.Need-mul-squeeze-rest
-mul-squeeze-rest c = omega (arith, reached (c .before))
+squeeze-place-requires : tie.Need-squeeze-place-requires Inv-loop μ-loop
+squeeze-place-requires c κs =
+    let turn = c .before .before .before .before .before .before in
+    let head = turn .before in
+    let start = head .before .before .before in
+    (alike head, start .pre .2 .inside (head .loop .k) (head .loop .inv .0) (turn .loop-test .taken))
 
-sub-squeeze-rest-2 : tie.Need-sub-squeeze-rest-2
-sub-squeeze-rest-2 c = omega (arith, reached (c .before))
+add-k : tie.Need-add-k Inv-loop μ-loop
+add-k c = search needs
 
-part-squeeze-rest-start : tie.Need-part-squeeze-rest-start
-part-squeeze-rest-start c = omega (arith, reached (c .before))
+loop-less : tie.Need-loop-less Inv-loop μ-loop
+loop-less c = search needs
 
-part-squeeze-rest-end : tie.Need-part-squeeze-rest-end
-part-squeeze-rest-end c = search needs
+loop-again : tie.Need-loop-again Inv-loop μ-loop
+loop-again c =
+    let put = c .before .before .squeeze-place in
+    let turn = c .before .before .before .before .before .before .before .before .before in
+    let head = turn .before in
+    let start = head .before .before .before in
+    let a = start .args in
+    let i = head .loop .inv in (
+      omega arith,
+      omega arith,
+      put .kept .1 .1 .1 .1 .1 .1 .0 ∙ i .2,
+      put .kept .1 .1 .1 .1 .1 .1 .1 .0 ∙ i .3,
+      squeezed-more (a .step .horizontal) (placeAt (a .widths .now) (a .heights .now) (a .homes .now) (a .slots .now)) (a .step .begin) (a .step .begin + a .step .number) (a .picture .now) (a .odd .now) (a .even .now)
+          (start .pre .2) (head .loop .k) (i .0) (turn .loop-test .taken) (head .loop .odd) (head .loop .even) _ _ (i .4) (put .ensures),
+    )
 
-squeeze-rest-requires : tie.Need-squeeze-rest-requires
-squeeze-rest-requires c κs =
-    let sb = c .before .before .before in
-    let start = sb .before .before .before .before in
-    let r = reached sb in
-    let xs = start .args .pyramid .now in
-    let from = sb .before .before .samples-before .result in
-    let l = part-length from (length xs - from) xs (omega arith) in
-    (start .pre .0 .inside, r .2, omega arith, omega (arith, start .pre .1, start .pre .2))
+same-length : tie.Need-same-length Inv-loop μ-loop
+same-length c = c .before .loop .inv .2
 
-same-length : tie.Need-same-length
-same-length c = search needs
+same-length-2 : tie.Need-same-length-2 Inv-loop μ-loop
+same-length-2 c = c .before .loop .inv .3
 
-same-length-2 : tie.Need-same-length-2
-same-length-2 c = search needs
-
-returns : tie.Need-returns
+returns : tie.Need-returns Inv-loop μ-loop
 returns c =
-    let sb = c .before .before .before .before .before .before in
-    let start = sb .before .before .before .before in
-    let a = start .args in
-    in-place (a .step) (channels (a .list)) (a .pyramid .now) (start .pre .0 .inside) (start .pre .1) (sb .before .before .samples-before .result) (sb .samples-before2 .result) _ (sb .before .before .samples-before .ensures) (sb .samples-before2 .ensures ∙ range-end (a .step) (channels (a .list))) (c .before .before .before .before .before .if1 .taken) (c .before .before .squeeze-range .ensures)
-
-same-length-3 : tie.Need-same-length-3
-same-length-3 c = search needs
-
-same-length-4 : tie.Need-same-length-4
-same-length-4 c = search needs
-
-returns-2 : tie.Need-returns-2
-returns-2 c =
-    let sb = c .before .before .before .before .before .before in
-    let start = sb .before .before .before .before in
-    let a = start .args in
-    at-end (a .step) (channels (a .list)) (a .pyramid .now) (start .pre .0 .inside) (start .pre .1) (sb .before .before .samples-before .result) (sb .samples-before2 .result) _ (sb .before .before .samples-before .ensures) (sb .samples-before2 .ensures ∙ range-end (a .step) (channels (a .list))) (c .before .before .before .before .before .if1 .left) (c .before .before .squeeze-rest .ensures)
+    let head = c .before in
+    let i = head .loop .inv in
+    let e : head .loop .k ≡ head .before .before .before .args .step .begin + head .before .before .before .args .step .number = omega (arith, i .1, c .loop-test .left) in
+    rw e at (i .4)
 
 pub squeeze-step-spec : {M : Type 1} → statement M
 squeeze-step-spec =
     tie.close
     (tie.spec
+    Inv-loop
+    μ-loop
     cast-begin
-    samples-before-requires
-    cast-samples-before
-    add-samples-before
-    samples-before-requires-2
-    mul-squeeze-range
-    sub-squeeze-range
-    part-squeeze-range-start
-    part-squeeze-range-end
-    squeeze-range-requires
-    sub-squeeze-rest
-    mul-squeeze-rest
-    sub-squeeze-rest-2
-    part-squeeze-rest-start
-    part-squeeze-rest-end
-    squeeze-rest-requires
+    cast-end
+    add-end
+    loop-holds
+    mul-squeeze-place
+    element-copy-out-squeeze-place
+    mul-squeeze-place-2
+    element-copy-out-squeeze-place-2
+    mul-squeeze-place-3
+    element-copy-out-squeeze-place-3
+    element-copy-out-squeeze-place-4
+    squeeze-place-requires
+    add-k
+    loop-less
+    loop-again
     same-length
     same-length-2
-    returns
-    same-length-3
-    same-length-4
-    returns-2)
+    returns)

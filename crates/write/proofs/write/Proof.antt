@@ -1,5 +1,5 @@
 -- `write` meets its contract: each return has the answers to the questions before it (proofs/Answered.antt). Assumes nothing.
-use mathlib.Core.Path.{_≡_, sym, ap, _∙_}
+use mathlib.Core.Path.{_≡_, sym, _∙_}
 use mathlib.Core.Bool.{true}
 use borrow.Author.Needs.{needs}
 use lib.ListN.{length}
@@ -9,7 +9,8 @@ use Rattle.list.proofs.Asking.{no, yes}
 use Rattle.plan.specs.Steps.{steps}
 use Rattle.plan.specs.Plans.{judgePlan, meant}
 use Rattle.plan.proofs.Judged.{plan-answer, judged-list, meant-judged, meant-is}
-use Rattle.buffer.proofs.Overwritten.{zeros-same, copied-all}
+use Rattle.buffer.proofs.Overwritten.{zeros-same}
+use Rattle.write.specs.Standing.{Alike}
 use Rattle.write.specs.Write.{slicesFit}
 use Rattle.write.proofs.Answered.{fit-tested, fit-lengths, plan-refused, slices-refused, accepted}
 use Rattle.write.proofs.write.Statement.{statement}
@@ -29,19 +30,18 @@ slices c =
     let a = c .before .before .before .before .args in
     yes (fit-tested (channels (a .list)) (c .before .total .result) (a .picture .now) (a .pyramid .now) (a .work .now) (c .before .total .ensures)) (c .if2 .left)
 
--- the samples that the run starts from, and the steps that it takes
+-- the slices and the steps of the run
 module _ (c : tie.After-run-arg2) where
   abbrev passed : tie.Else2
-  passed = c .before .before .before .before .before .before
+  passed = c .before .before .before
 
   abbrev start : tie.Start
   start = passed .before .before .before .before
 
-  lengths : (length (start .args .picture .now) ≡ total (channels (start .args .list))) × (length (start .args .pyramid .now) ≡ total (channels (start .args .list))) × (length (start .args .work .now) ≡ total (channels (start .args .list)))
-  lengths = fit-lengths (channels (start .args .list)) (start .args .picture .now) (start .args .pyramid .now) (start .args .work .now) (slices passed)
-
-  copied : c .before .before .before .before .copy .last .1 .0 ≡ start .args .picture .now
-  copied = c .before .before .before .before .copy .ensures ∙ copied-all (start .args .picture .now) (start .args .pyramid .now) (lengths .0 ∙ sym (lengths .1))
+  lengths : (length (start .args .picture .now) ≡ total (channels (start .args .list))) × Alike (start .args .picture .now) (start .args .pyramid .now) (start .args .work .now)
+  lengths =
+      let l = fit-lengths (channels (start .args .list)) (start .args .picture .now) (start .args .pyramid .now) (start .args .work .now) (slices passed) in
+      (l .0, record { odds-length = l .1 ∙ sym (l .0); evens-length = l .2 ∙ sym (l .0) })
 
   few : c .before .before .meant-steps .result .steps .count ≤ maxSteps
   few = c .before .before .meant-steps .ensures .1
@@ -67,9 +67,6 @@ returns-2 c =
     slices-refused (a .list) (a .steps) (a .picture .now) (a .pyramid .now) (a .work .now) (sym (judged rewrote) ∙ c .before .before .if1 .left)
     (no (fit-tested (channels (a .list)) (c .before .total .result) (a .picture .now) (a .pyramid .now) (a .work .now) (c .before .total .ensures)) (c .if2 .taken))
 
-copy-requires : tie.Need-copy-requires
-copy-requires c κs = search needs
-
 meant-steps-requires : tie.Need-meant-steps-requires
 meant-steps-requires c κs = search needs
 
@@ -77,7 +74,7 @@ run-requires : tie.Need-run-requires
 run-requires c κs =
     let a = start c .args in
     let ok = plan (passed c) in
-    (judged-list (a .list) (a .steps) ok, few c, rw (taken c) (meant-judged (a .list) (a .steps) ok), ap length (copied c) ∙ lengths c .0, lengths c .2)
+    (judged-list (a .list) (a .steps) ok, few c, rw (taken c) (meant-judged (a .list) (a .steps) ok), lengths c .0, lengths c .1)
 
 clear-requires : tie.Need-clear-requires
 clear-requires c κs = search needs
@@ -94,7 +91,7 @@ returns-3 c =
     let r = ran .before in
     let a = start r .args in
     accepted (a .list) (a .steps) (a .picture .now) (a .pyramid .now) (a .work .now) (plan (passed r)) (slices (passed r)) _ _
-    (rw (copied r, taken r) at (ran .run .ensures)) (c .before .clear .ensures ∙ zeros-same _ (a .work .now) (ran .run .kept .1 .1 .1 .0))
+    (rw (taken r) at (ran .run .ensures)) (c .before .clear .ensures ∙ zeros-same _ (a .work .now) (ran .run .kept .1 .1 .1 .1 .0))
 
 pub write-spec : {M : Type 1} → statement M
 write-spec =
@@ -104,7 +101,6 @@ write-spec =
     returns
     total-requires
     returns-2
-    copy-requires
     meant-steps-requires
     run-requires
     clear-requires

@@ -28,8 +28,8 @@ loop-holds : tie.Need-loop-holds Inv-loop μ-loop
 unfolding channelsAllowed
 loop-holds c = (omega arith, ap (allowedAfter false) (channels-all _ (c .len .result) (c .len .ensures)))
 
-channel-requires : tie.Need-channel-requires Inv-loop μ-loop
-channel-requires c κs = search needs
+entry-of-requires : tie.Need-entry-of-requires Inv-loop μ-loop
+entry-of-requires c κs = search needs
 
 is-meta-requires : tie.Need-is-meta-requires Inv-loop μ-loop
 is-meta-requires c κs = search needs
@@ -37,13 +37,18 @@ is-meta-requires c κs = search needs
 has-shifts-allowed-requires : tie.Need-has-shifts-allowed-requires Inv-loop μ-loop
 has-shifts-allowed-requires c κs = search needs
 
+-- the turn of the loop in which a channel was found
+abbrev turn : tie.After-entry-of Inv-loop μ-loop → tie.In-loop Inv-loop μ-loop
+turn c = c .before .before .before .before .before .before
+
 returns : tie.Need-returns Inv-loop μ-loop
 returns c =
     let b = c .before in
-    let v = b .before .before .channel in
-    let q = b .before .before .before .before in
-    allowed-stop (channelAt (q .before .before .args .self)) (q .loop .k) _ (q .loop .plain) (b .has-shifts-allowed .result) (b .before .is-meta .result) (v .result)
-    (b .before .before .before .loop-test .taken) (v .ensures) (b .has-shifts-allowed .ensures) (b .before .is-meta .ensures) (c .if1 .taken)
+    let v = b .before .before in
+    let t = turn v in
+    let q = t .before in
+    allowed-stop (channelAt (q .before .before .args .t1)) (q .loop .k) _ (q .loop .plain) (b .has-shifts-allowed .result) (b .before .is-meta .result) (v .entry-of .result)
+    (t .loop-test .taken) (v .entry-of .ensures) (b .has-shifts-allowed .ensures) (b .before .is-meta .ensures) (c .if1 .taken)
     ∙ q .loop .inv .1
 
 add-k : tie.Need-add-k Inv-loop μ-loop
@@ -55,11 +60,12 @@ loop-less c = search needs
 loop-again : tie.Need-loop-again Inv-loop μ-loop
 loop-again c =
     let b = c .before in
-    let v = b .before .before .channel in
-    let q = b .before .before .before .before in (
+    let v = b .before .before in
+    let t = turn v in
+    let q = t .before in (
       omega arith,
-      allowed-next (channelAt (q .before .before .args .self)) (q .loop .k) _ (q .loop .plain) (b .has-shifts-allowed .result) (b .before .is-meta .result) (v .result)
-          (b .before .before .before .loop-test .taken) (v .ensures) (b .has-shifts-allowed .ensures) (b .before .is-meta .ensures) (c .if1 .left)
+      allowed-next (channelAt (q .before .before .args .t1)) (q .loop .k) _ (q .loop .plain) (b .has-shifts-allowed .result) (b .before .is-meta .result) (v .entry-of .result)
+          (t .loop-test .taken) (v .entry-of .ensures) (b .has-shifts-allowed .ensures) (b .before .is-meta .ensures) (c .if1 .left)
           ∙ q .loop .inv .1,
     )
 
@@ -67,7 +73,7 @@ returns-2 : tie.Need-returns-2 Inv-loop μ-loop
 returns-2 c =
     let q = c .before in
     sym (allowed-end (q .loop .plain))
-    ∙ rw (table-none (channelAt (q .before .before .args .self)) (q .loop .k) (q .before .len .result) (c .loop-test .left)) at (q .loop .inv .1)
+    ∙ rw (table-none (channelAt (q .before .before .args .t1)) (q .loop .k) (q .before .len .result) (c .loop-test .left)) at (q .loop .inv .1)
 
 pub channels-allowed-spec : {M : Type 1} → statement M
 channels-allowed-spec =
@@ -77,7 +83,7 @@ channels-allowed-spec =
     μ-loop
     len-requires
     loop-holds
-    channel-requires
+    entry-of-requires
     is-meta-requires
     has-shifts-allowed-requires
     returns

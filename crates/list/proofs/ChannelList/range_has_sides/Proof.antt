@@ -29,20 +29,24 @@ add-end c = search needs
 loop-holds : tie.Need-loop-holds Inv-loop μ-loop
 loop-holds c = refl
 
-channel-requires : tie.Need-channel-requires Inv-loop μ-loop
-channel-requires c κs = search needs
+entry-of-requires : tie.Need-entry-of-requires Inv-loop μ-loop
+entry-of-requires c κs = search needs
 
 has-sides-requires : tie.Need-has-sides-requires Inv-loop μ-loop
 has-sides-requires c κs = search needs
 
+-- the turn of the loop in which a channel was found
+abbrev turn : tie.After-entry-of Inv-loop μ-loop → tie.In-loop Inv-loop μ-loop
+turn c = c .before .before .before .before .before .before
+
 returns : tie.Need-returns Inv-loop μ-loop
 returns c =
     let t = c .before .has-sides in
-    let v = c .before .before .channel in
-    let q = c .before .before .before in
+    let v = c .before .before in
+    let q = turn v in
     let s = q .before .before .before .before in
-    rw (channels-range (s .args .self) (s .args .step) (range-inside (s .args .step) (channels (s .args .self)) (s .pre) .1))
-    (all-stop (channelAt (s .args .self)) hasSides (q .before .loop .k) _ (v .result) (t .result) (q .loop-test .taken) (v .ensures) (t .ensures)
+    rw (channels-range (s .args .t1) (s .args .step) (range-inside (s .args .step) (channels (s .args .t1)) (s .pre) .1))
+    (all-stop (channelAt (s .args .t1)) hasSides (q .before .loop .k) _ (v .entry-of .result) (t .result) (q .loop-test .taken) (v .entry-of .ensures) (t .ensures)
     (not-true (t .result) (c .if1 .taken))
     ∙ q .before .loop .inv)
 
@@ -55,10 +59,10 @@ loop-less c = search needs
 loop-again : tie.Need-loop-again Inv-loop μ-loop
 loop-again c =
     let t = c .before .has-sides in
-    let v = c .before .before .channel in
-    let q = c .before .before .before in
+    let v = c .before .before in
+    let q = turn v in
     let s = q .before .before .before .before in
-    all-next (channelAt (s .args .self)) hasSides (q .before .loop .k) _ (v .result) (t .result) (q .loop-test .taken) (v .ensures) (t .ensures)
+    all-next (channelAt (s .args .t1)) hasSides (q .before .loop .k) _ (v .entry-of .result) (t .result) (q .loop-test .taken) (v .entry-of .ensures) (t .ensures)
     (not-false (t .result) (c .if1 .left))
     ∙ q .before .loop .inv
 
@@ -66,8 +70,8 @@ returns-2 : tie.Need-returns-2 Inv-loop μ-loop
 returns-2 c =
     let q = c .before in
     let s = q .before .before .before in
-    rw (channels-range (s .args .self) (s .args .step) (range-inside (s .args .step) (channels (s .args .self)) (s .pre) .1))
-    (rw (table-none (channelAt (s .args .self)) (q .loop .k) _ (c .loop-test .left)) at (q .loop .inv))
+    rw (channels-range (s .args .t1) (s .args .step) (range-inside (s .args .step) (channels (s .args .t1)) (s .pre) .1))
+    (rw (table-none (channelAt (s .args .t1)) (q .loop .k) _ (c .loop-test .left)) at (q .loop .inv))
 
 pub range-has-sides-spec : {M : Type 1} → statement M
 range-has-sides-spec =
@@ -79,7 +83,7 @@ range-has-sides-spec =
     cast-end
     add-end
     loop-holds
-    channel-requires
+    entry-of-requires
     has-sides-requires
     returns
     add-k

@@ -12,10 +12,10 @@ use Rattle.list.proofs.ChannelList.range_keeps_shifts.Statement.{statem
 use Rattle.list.proofs.ChannelList.range_keeps_shifts.Tie as tie
 
 abbrev Inv-loop : tie.InvT-loop
-Inv-loop self step begin end k₀ k = all (shiftsKept (step .horizontal)) (table (channelAt self) k (end - k)) ≡ all (shiftsKept (step .horizontal)) (table (channelAt self) begin (end - begin))
+Inv-loop step self begin end k₀ k = all (shiftsKept (step .horizontal)) (table (channelAt self) k (end - k)) ≡ all (shiftsKept (step .horizontal)) (table (channelAt self) begin (end - begin))
 
 abbrev μ-loop : tie.MeasureT-loop
-μ-loop self step begin end k₀ k = end - k
+μ-loop step self begin end k₀ k = end - k
 
 cast-begin : tie.Need-cast-begin Inv-loop μ-loop
 cast-begin c = search needs
@@ -29,20 +29,24 @@ add-end c = search needs
 loop-holds : tie.Need-loop-holds Inv-loop μ-loop
 loop-holds c = refl
 
-channel-requires : tie.Need-channel-requires Inv-loop μ-loop
-channel-requires c κs = search needs
+entry-of-requires : tie.Need-entry-of-requires Inv-loop μ-loop
+entry-of-requires c κs = search needs
 
 keeps-shifts-requires : tie.Need-keeps-shifts-requires Inv-loop μ-loop
 keeps-shifts-requires c κs = search needs
 
+-- the turn of the loop in which a channel was found
+abbrev turn : tie.After-entry-of Inv-loop μ-loop → tie.In-loop Inv-loop μ-loop
+turn c = c .before .before .before .before .before .before
+
 returns : tie.Need-returns Inv-loop μ-loop
 returns c =
     let t = c .before .keeps-shifts in
-    let v = c .before .before .channel in
-    let q = c .before .before .before in
+    let v = c .before .before in
+    let q = turn v in
     let s = q .before .before .before .before in
-    rw (channels-range (s .args .self) (s .args .step) (range-inside (s .args .step) (channels (s .args .self)) (s .pre) .1))
-    (all-stop (channelAt (s .args .self)) (shiftsKept (s .args .step .horizontal)) (q .before .loop .k) _ (v .result) (t .result) (q .loop-test .taken) (v .ensures) (t .ensures)
+    rw (channels-range (s .args .t1) (s .args .step) (range-inside (s .args .step) (channels (s .args .t1)) (s .pre) .1))
+    (all-stop (channelAt (s .args .t1)) (shiftsKept (s .args .step .horizontal)) (q .before .loop .k) _ (v .entry-of .result) (t .result) (q .loop-test .taken) (v .entry-of .ensures) (t .ensures)
     (not-true (t .result) (c .if1 .taken))
     ∙ q .before .loop .inv)
 
@@ -55,10 +59,10 @@ loop-less c = search needs
 loop-again : tie.Need-loop-again Inv-loop μ-loop
 loop-again c =
     let t = c .before .keeps-shifts in
-    let v = c .before .before .channel in
-    let q = c .before .before .before in
+    let v = c .before .before in
+    let q = turn v in
     let s = q .before .before .before .before in
-    all-next (channelAt (s .args .self)) (shiftsKept (s .args .step .horizontal)) (q .before .loop .k) _ (v .result) (t .result) (q .loop-test .taken) (v .ensures) (t .ensures)
+    all-next (channelAt (s .args .t1)) (shiftsKept (s .args .step .horizontal)) (q .before .loop .k) _ (v .entry-of .result) (t .result) (q .loop-test .taken) (v .entry-of .ensures) (t .ensures)
     (not-false (t .result) (c .if1 .left))
     ∙ q .before .loop .inv
 
@@ -66,8 +70,8 @@ returns-2 : tie.Need-returns-2 Inv-loop μ-loop
 returns-2 c =
     let q = c .before in
     let s = q .before .before .before in
-    rw (channels-range (s .args .self) (s .args .step) (range-inside (s .args .step) (channels (s .args .self)) (s .pre) .1))
-    (rw (table-none (channelAt (s .args .self)) (q .loop .k) _ (c .loop-test .left)) at (q .loop .inv))
+    rw (channels-range (s .args .t1) (s .args .step) (range-inside (s .args .step) (channels (s .args .t1)) (s .pre) .1))
+    (rw (table-none (channelAt (s .args .t1)) (q .loop .k) _ (c .loop-test .left)) at (q .loop .inv))
 
 pub range-keeps-shifts-spec : {M : Type 1} → statement M
 range-keeps-shifts-spec =
@@ -79,7 +83,7 @@ range-keeps-shifts-spec =
     cast-end
     add-end
     loop-holds
-    channel-requires
+    entry-of-requires
     keeps-shifts-requires
     returns
     add-k

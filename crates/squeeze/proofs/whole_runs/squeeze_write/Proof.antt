@@ -1,17 +1,17 @@
--- `squeeze_write` meets its contract: the record is refused, or the call below answers (proofs/Ends.antt). Assumes nothing.
+-- `squeeze_write` meets its contract: the record's form is refused, or the call below answers (proofs/Ends.antt). Assumes nothing.
 use borrow.Author.Needs.{needs}
 use Rattle.squeeze.proofs.Ends.{write-refused, write-done}
 use Rattle.squeeze.proofs.whole_runs.squeeze_write.Statement.{statement}
 use Rattle.squeeze.proofs.whole_runs.squeeze_write.Tie as tie
 
-read-record-requires : tie.Need-read-record-requires
-read-record-requires c κs = search needs
+read-form-requires : tie.Need-read-form-requires
+read-form-requires c κs = search needs
 
 returns : tie.Need-returns
 returns c =
     let f = c .before .before in
     let a = f .before .before .args in
-    write-refused (a .bytes .now) (f .read-record .result) (f .read-record .ensures) (a .picture .now) (a .pyramid .now) (a .work .now) (c .if1 .taken)
+    write-refused (a .bytes .now) (f .read-form .result) (f .read-form .ensures) (a .picture .now) (a .pyramid .now) (a .work .now) (c .if1 .taken)
 
 write-requires : tie.Need-write-requires
 write-requires c κs = search needs
@@ -27,8 +27,8 @@ returns-2 c =
     let e = c .before .before .before .before .before in
     let f = e .before .before in
     let a = f .before .before .args in
-    write-done (a .bytes .now) (f .read-record .result) (f .read-record .ensures) (e .if1 .left) (a .picture .now) (a .pyramid .now) (a .work .now)
+    write-done (a .bytes .now) (f .read-form .result) (f .read-form .ensures) (a .picture .now) (a .pyramid .now) (a .work .now) (e .if1 .left)
     (c .before .before .write .result) _ _ (c .before .before .write .ensures)
 
 pub squeeze-write-spec : {M : Type 1} → statement M
-squeeze-write-spec = tie.close (tie.spec read-record-requires returns write-requires same-length same-length-2 returns-2)
+squeeze-write-spec = tie.close (tie.spec read-form-requires returns write-requires same-length same-length-2 returns-2)

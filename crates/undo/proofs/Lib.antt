@@ -1,4 +1,0 @@
-pub mod Pieces
-pub mod OneChannel
-pub mod OneStep
-pub mod Entries
