@@ -5,3 +5,4 @@ pub mod Parts
 pub mod Moves
 pub mod Homes
 pub mod Placed
+pub mod Arrays

@@ -19,23 +19,9 @@ use Rattle.list.proofs.Channels.{channels-length, channels-at}
 use Rattle.plan.specs.declared.Steps.{Steps}
 use Rattle.plan.specs.Steps.{stepAt}
 use Rattle.places.specs.Places.{Place, area, unmade, behind, startsFrom, placeAt, placesIn, areasIn, stepFits, placesAfter, placeOf}
+use Rattle.places.proofs.Arrays.{map-table, starts-length, places-length, places-at}
 use Rattle.rebuild.specs.Run.{placesFrom, placesAll, firstSteps}
 use Rattle.rebuild.proofs.Firsts.{from-homes, from-sided, places-next}
-
-module _ (count : ℕ) (widths heights homes slots : List ℕ) where
-  pub places-length : length (placesIn count widths heights homes slots) ≡ count
-  unfolding placesIn
-  places-length = table-length (placeAt widths heights homes slots) 0 count
-
-  pub places-at : (k : ℕ) → k < count → placeOf (placesIn count widths heights homes slots) k ≡ placeAt widths heights homes slots k
-  unfolding placesIn
-  places-at k h =
-      let z : 0 + k ≡ k = omega arith in
-      table-at (placeAt widths heights homes slots) 0 count k _ h ∙ ap (placeAt widths heights homes slots) z
-
-map-table : {A B : Type 0} (g : A → B) (f : ℕ → A) (k n : ℕ) → map g (table f k n) ≡ table (λ j. g (f j)) k n
-map-table g f k zero = refl
-map-table g f k (suc n) = ap (λ (l : List _). g (f k) ∷ l) (map-table g f (suc k) n)
 
 -- the areas that arrays hold are those of their places
 pub areas-are : (count : ℕ) (widths heights homes slots : List ℕ) → count ≤ maxChannels → areasIn count widths heights ≡ map area (placesIn count widths heights homes slots)
@@ -48,10 +34,6 @@ areas-are count widths heights homes slots h =
 pub areas-first : (l : ChannelList) → areasIn (l .count) (l .widths) (l .heights) ≡ map samples (channels l)
 unfolding areasIn Lists.channels samples
 areas-first l = sym (map-table samples (channelAt l) 0 (min (l .count) maxChannels))
-
-pub starts-length : (at : ℕ) (ns : List ℕ) → length (startsFrom at ns) ≡ length ns
-starts-length at [] = refl
-starts-length at (n ∷ ns) = ap suc (starts-length (behind at n) ns)
 
 pub from-slots : (at : ℕ) (cs : List Channel) (k : ℕ) → placeOf (placesFrom at cs) k .slot ≡ unmade
 from-slots at [] k = refl

@@ -29,7 +29,8 @@ use Rattle.runs.specs.Parts.{parts, joined}
 use Rattle.runs.specs.Runs.{rebuilt}
 use Rattle.runs.proofs.Shapes.{joined-parts}
 use Rattle.rebuild.specs.Run.{placesFrom, listAt, placesAt, samplesAt, RunFits, Back, placeIn, givenAt, SettleFits, Settled}
-use Rattle.rebuild.proofs.Arrays.{places-length, areas-are, starts-length, from-slots}
+use Rattle.places.proofs.Arrays.{places-length, starts-length}
+use Rattle.rebuild.proofs.Arrays.{areas-are, from-slots}
 use Rattle.rebuild.proofs.Firsts.{from-areas, from-homes, from-sided, sum-samples, all-steps, list-total, total-few, accepted-few, places-sided}
 use Rattle.rebuild.proofs.StepsBack.{parts-count}
 

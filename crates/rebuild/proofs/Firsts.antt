@@ -26,6 +26,7 @@ use Rattle.plan.specs.Plans.{judgeSteps, steppedAll}
 use Rattle.plan.proofs.Runs.{none-refused, stepped-append, judge-append, steps-total, plan-accepted}
 use Rattle.places.specs.Places.{Place, area, behind, sum, startsFrom, stepPlaces, stepFits, placeOf}
 use Rattle.places.specs.Laid.{Laid, Sided}
+use Rattle.places.proofs.Arrays.{table-join}
 use Rattle.places.proofs.Laid.{laid-first, laid-step}
 use Rattle.places.proofs.Sided.{sided-step}
 use Rattle.rebuild.specs.Run.{placesFrom, placesAll, firstSteps, listAt, placesAt, StepsFit, RunFits}
@@ -73,22 +74,15 @@ from-laid cs few =
     at (laid-first (placesFrom 0 cs) (map samples cs) (sym (from-areas 0 cs)) (from-homes 0 cs) (let e = sum-samples cs in omega arith))
 
 -- ---- one step more
-table-split : (f : ℕ → Step) (k m n : ℕ) → table f k (m + n) ≡ table f k m ++ table f (k + m) n
-table-split f k zero n = let e : k + 0 ≡ k = omega arith in let z : 0 + n ≡ n = omega arith in rw (e, z)
-table-split f k (suc m) n =
-    let e : k + suc m ≡ suc k + m = omega arith in
-    let z : suc m + n ≡ suc (m + n) = omega arith in
-    rw (e, z) (ap (λ (l : List Step). f k ∷ l) (table-split f (suc k) m n))
-
 to-more : (s : Steps) (m : ℕ) → firstSteps s (m + 1) ≡ firstSteps s m ++ (stepAt s m ∷ [])
-to-more s m = let z : 0 + m ≡ m = omega arith in table-split (stepAt s) 0 m 1 ∙ rw z
+to-more s m = let z : 0 + m ≡ m = omega arith in table-join (stepAt s) 0 m 1 ∙ rw z
 
 pub all-steps : (s : Steps) (m : ℕ) → m ≤ s .count → s .count ≤ maxSteps → steps s ≡ firstSteps s m ++ table (stepAt s) m (s .count - m)
 unfolding S.steps
 all-steps s m h few =
     let e : min (s .count) maxSteps ≡ m + (s .count - m) = omega arith in
     let z : 0 + m ≡ m = omega arith in
-    rw e (table-split (stepAt s) 0 m (s .count - m) ∙ rw z)
+    rw e (table-join (stepAt s) 0 m (s .count - m) ∙ rw z)
 
 places-append : (ss ts : List Step) (ps : List Place) → placesAll (ss ++ ts) ps ≡ placesAll ts (placesAll ss ps)
 places-append [] ts ps = refl

@@ -28,8 +28,9 @@ use Rattle.plan.specs.Plans.{judgeSteps}
 use Rattle.runs.specs.Parts.{joined}
 use Rattle.write.specs.Standing as Standing
 use Rattle.write.specs.Standing.{Alike, lying, held, Begun}
-use Rattle.write.proofs.Tables.{sum-more, joined-more, map-table, table-same}
-use Rattle.write.proofs.Homes.{places-length, places-at, areas-sum, home-at, laid-so}
+use Rattle.places.proofs.Arrays.{map-table, places-length, places-at}
+use Rattle.write.proofs.Tables.{sum-more, joined-more, table-same}
+use Rattle.write.proofs.Homes.{areas-sum, home-at, laid-so}
 
 -- parts one after the other are the front of a slice
 parts-front : (at : ℕ → Place) (count : ℕ) (xs : List ℤ) → ((k : ℕ) → k < count → at k .home ≡ sum (table (λ j. area (at j)) 0 k)) → (k : ℕ) → k ≤ count

@@ -16,12 +16,13 @@ use Rattle.list.proofs.Tables.{table-length, table-at, table-first}
 use Rattle.places.specs.Places as Places
 use Rattle.places.specs.Places.{Place, area, startsFrom, sum, placeAt, placesIn, placesAfter, stepPlaces, areasIn, placeOf}
 use Rattle.places.specs.Laid.{Laid}
+use Rattle.places.proofs.Arrays.{map-table, starts-length, places-length, places-at}
 use Rattle.places.proofs.Homes.{areas-all}
 use Rattle.places.proofs.Laid.{laid-first, first-home}
 use Rattle.runs.specs.Parts.{joined}
 use Rattle.write.specs.Standing.{lying, held, Ranged, Squeezed, Full}
 use Rattle.write.specs.Settled.{Cleared, Starting, settled}
-use Rattle.write.proofs.Tables.{map-table, table-same}
+use Rattle.write.proofs.Tables.{table-same}
 
 -- a list is the table of its entries, also where more follows
 table-front : (xs ys : List ℕ) → table (λ k. getD (xs ++ ys) k 0) 0 (length xs) ≡ xs
@@ -31,10 +32,6 @@ table-front xs ys =
     ext-getD 0 (table f 0 (length xs)) xs n
     (λ k h. let z : 0 + k ≡ k = omega arith in table-at f 0 (length xs) k 0 (omega arith) ∙ rw z (List·getD-append xs ys 0 k (omega arith)))
 
-starts-length : (at : ℕ) (ns : List ℕ) → length (startsFrom at ns) ≡ length ns
-starts-length at [] = refl
-starts-length at (n ∷ ns) = ap suc (starts-length (Places.behind at n) ns)
-
 -- ---- entries
 module _ (count : ℕ) (widths heights homes slots : List ℕ) where
   abbrev at : ℕ → Place
@@ -43,28 +40,20 @@ module _ (count : ℕ) (widths heights homes slots : List ℕ) where
   abbrev ps : List Place
   ps = placesIn count widths heights homes slots
 
-  pub places-length : length ps ≡ count
-  unfolding Places.placesIn
-  places-length = table-length at 0 count
-
-  pub places-at : (k : ℕ) → k < count → placeOf ps k ≡ at k
-  unfolding Places.placesIn
-  places-at k h = let z : 0 + k ≡ k = omega arith in table-at at 0 count k _ h ∙ ap at z
-
   pub laid-ranged : (n from to : ℕ) → to ≤ count → Laid n ps → Ranged n at from to
   laid-ranged n from to l w =
-      let c = places-length in
+      let c = places-length count widths heights homes slots in
       record {
-        inside = λ k a b. rw (places-at k (omega arith)) at (w .inside k (omega arith));
-        apart = λ i j a b d. rw (places-at i (omega arith), places-at j (omega arith)) at (w .apart i j b (omega arith));
+        inside = λ k a b. rw (places-at count widths heights homes slots k (omega arith)) at (w .inside k (omega arith));
+        apart = λ i j a b d. rw (places-at count widths heights homes slots i (omega arith), places-at count widths heights homes slots j (omega arith)) at (w .apart i j b (omega arith));
       }
 
   pub squeezed-places : (h : Bool) (from to : ℕ) (picture odds evens odds′ evens′ : List ℤ) → to ≤ count
       → Squeezed h at from to picture odds evens odds′ evens′ → Squeezed h (placeOf ps) from to picture odds evens odds′ evens′
   squeezed-places h from to picture odds evens odds′ evens′ l w =
       record {
-        own = λ k a b. rw (places-at k (omega arith)) (w .own k a b);
-        kept = λ q i d. w .kept q i (λ k a b. rw (places-at k (omega arith)) at (d k a b));
+        own = λ k a b. rw (places-at count widths heights homes slots k (omega arith)) (w .own k a b);
+        kept = λ q i d. w .kept q i (λ k a b. rw (places-at count widths heights homes slots k (omega arith)) at (d k a b));
       }
 
   -- a step whose range lies inside and whose residuals have room
@@ -72,7 +61,7 @@ module _ (count : ℕ) (widths heights homes slots : List ℕ) where
       → placesAfter count s widths heights homes slots ≡ stepPlaces s ps
   unfolding Places.placesAfter Places.stepFits
   places-stepped s i r =
-      let n = places-length in
+      let n = places-length count widths heights homes slots in
       rw (le-leb (s .begin + s .number) count (omega arith), le-leb (count + s .number) maxChannels (omega arith))
 
   -- ---- homes one after the other
@@ -96,10 +85,10 @@ module _ (count : ℕ) (widths heights homes slots : List ℕ) where
 
       pub home-at : (k : ℕ) → k < count → getD homes k 0 ≡ sum (table (λ j. area (at j)) 0 k)
       home-at k h =
-          let l = places-length in
+          let l = places-length count widths heights homes slots in
           let z : min k count ≡ k = omega arith in
           let e = areas-so in
-          sym (ap (λ (p : Place). p .home) (places-at k h))
+          sym (ap (λ (p : Place). p .home) (places-at count widths heights homes slots k h))
           ∙ first-home ps (areasIn count widths heights) e homes-so (rw e small) k (omega arith)
           ∙ ap (λ (ns : List ℕ). sum (take k ns)) (areas-all count widths heights few)
           ∙ rw z at (ap sum (table-first (λ j. area (at j)) 0 count k))

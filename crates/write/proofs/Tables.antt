@@ -7,15 +7,9 @@ use lib.IntN.{ℤ}
 use Rattle.list.specs.Tables.{table, map}
 use Rattle.list.proofs.Tables.{table-rest}
 use Rattle.places.specs.Places.{sum}
+use Rattle.places.proofs.Arrays.{table-join}
 use Rattle.runs.specs.Parts.{joined}
 use Rattle.runs.proofs.Shapes.{joined-append}
-
-table-join {ℓ} : {A : Type ℓ} (f : ℕ → A) (a k m : ℕ) → table f a (k + m) ≡ table f a k ++ table f (a + k) m
-table-join f a zero m = let e : 0 + m ≡ m = omega arith in let z : a + 0 ≡ a = omega arith in rw (e, z)
-table-join f a (suc k) m =
-    let e : suc k + m ≡ suc (k + m) = omega arith in
-    let z : a + suc k ≡ suc a + k = omega arith in
-    rw (e, z) (ap (λ l. f a ∷ l) (table-join f (suc a) k m))
 
 -- ---- sums
 sum-append : (ms ns : List ℕ) → sum (ms ++ ns) ≡ sum ms + sum ns
@@ -40,11 +34,7 @@ joined-more f k =
     let z : 0 + k ≡ k = omega arith in
     rw (table-join f 0 k 1, z) (joined-append (table f 0 k) (f k ∷ []) ∙ rw (append-nil (f k)))
 
--- ---- tables under a function, and equal ones
-pub map-table {ℓ κ} : {A : Type ℓ} {B : Type κ} (g : A → B) (f : ℕ → A) (k n : ℕ) → map g (table f k n) ≡ table (λ j. g (f j)) k n
-map-table g f k zero = refl
-map-table g f k (suc n) = ap (λ l. g (f k) ∷ l) (map-table g f (suc k) n)
-
+-- ---- equal tables
 pub table-same {ℓ} : {A : Type ℓ} (f g : ℕ → A) (k n : ℕ) → ((j : ℕ) → k ≤ j → j < k + n → f j ≡ g j) → table f k n ≡ table g k n
 table-same f g k zero e = refl
 table-same f g k (suc n) e = rw (e k (omega arith) (omega arith), table-same f g (suc k) n (λ j l h. e j (omega arith) (omega arith)))

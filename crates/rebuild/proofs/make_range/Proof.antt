@@ -6,7 +6,7 @@ use borrow.Author.Needs.{needs}
 use mathlib.Core.List.{List}
 use lib.ListN.{length}
 use Rattle.places.specs.Places.{Place, residualsAt, placeAt, placesIn, placeOf}
-use Rattle.rebuild.proofs.Arrays.{places-length, places-at}
+use Rattle.places.proofs.Arrays.{places-length, places-at}
 use Rattle.rebuild.proofs.Ranges.{Taken, taken-none, turn-inside, put-fits, taken-more, taken-all}
 use Rattle.rebuild.proofs.make_range.Statement.{statement}
 use Rattle.rebuild.proofs.make_range.Tie as tie

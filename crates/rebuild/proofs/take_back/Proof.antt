@@ -2,7 +2,7 @@
 use mathlib.Core.Path.{sym, ap, _∙_}
 use native.Mathlib.Omega.{arith}
 use Rattle.places.specs.Places.{Place}
-use Rattle.rebuild.proofs.Arrays.{places-length, places-at}
+use Rattle.places.proofs.Arrays.{places-length, places-at}
 use borrow.Author.Needs.{needs}
 use Rattle.rebuild.proofs.take_back.Statement.{statement}
 use Rattle.rebuild.proofs.take_back.Tie as tie

@@ -12,7 +12,8 @@ use Rattle.places.specs.Places.{placesIn}
 use Rattle.places.proofs.Laid.{sum-total}
 use Rattle.write.specs.Standing.{Begun}
 use Rattle.write.proofs.Running.{Running, running-none, small, reach, running-more, running-all}
-use Rattle.write.proofs.Homes.{places-length, laid-ranged, squeezed-places, places-stepped}
+use Rattle.places.proofs.Arrays.{places-length}
+use Rattle.write.proofs.Homes.{laid-ranged, squeezed-places, places-stepped}
 use Rattle.write.proofs.squeeze_steps.Statement.{statement}
 use Rattle.write.proofs.squeeze_steps.Tie as tie
 
