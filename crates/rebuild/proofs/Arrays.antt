@@ -10,10 +10,10 @@ use Rattle.channel.specs.declared.Channel.{Channel}
 use Rattle.channel.specs.Channel.{samples}
 use Rattle.list.specs.declared.ChannelList.{ChannelList}
 use Rattle.list.specs.declared.Step.{Step}
-use Rattle.list.specs.Tables.{table, map}
+use Rattle.list.specs.Tables.{map}
 use Rattle.list.specs.Lists as Lists
 use Rattle.list.specs.Lists.{maxChannels, channelAt, channels}
-use Rattle.list.proofs.Tables.{table-length, table-at}
+use Rattle.list.proofs.Tables.{table-length}
 use Rattle.list.proofs.Maps.{map-length, map-at}
 use Rattle.list.proofs.Channels.{channels-length, channels-at}
 use Rattle.plan.specs.declared.Steps.{Steps}

@@ -18,7 +18,7 @@ ghost use Rattle.places.specs.Places.{odd, placesIn};
 ghost use Rattle.places.specs.Laid.{part, written};
 ghost use Rattle.runs.specs.Runs.{linesOf, sizeOf, channelBack, rebuilt};
 ghost use Rattle.rebuild.specs.Rebuild.{answerOf, pictureAfter, workAfter};
-ghost use Rattle.rebuild.specs.Run.{lyingIn, channelFrom, other, ChannelFits, PutFits, Wrote, RangeFits, Ranged, Marked, Closed, TakenBack, placesAll, firstSteps, StepsFit, RunFits, Back, SettleFits, Settled};
+ghost use Rattle.rebuild.specs.Run.{sourceAt, lyingIn, channelFrom, other, ChannelFits, PutFits, Wrote, RangeFits, Ranged, Marked, Closed, TakenBack, placesAll, firstSteps, StepsFit, RunFits, Back, SettleFits, Settled};
 use channel::Channel;
 use list::ChannelList;
 use list::Step;
@@ -115,6 +115,17 @@ struct Source {
     start: usize,
 }
 
+// That of entry `j` of the list after a step.
+fn source_at(starts: &[usize], made: &[bool], j: usize) -> Source
+    requires { ⌜ (j < length (now starts)) × (j < length (now made)) ⌝ }
+    ensures { λ r. ⌜ r ≡ sourceAt (now (starts .entry)) (now (made .entry)) j ⌝ }
+{
+    Source {
+        made: made[j],
+        start: starts[j],
+    }
+}
+
 // The n samples of it; `other` is the slice of its home.
 fn lying<'a>(source: Source, n: usize, pyramid: &'a [i32], other: &'a [i32]) -> &'a [i32]
     requires { ⌜ (source .start + n ≤ length (now pyramid)) × (length (now other) ≡ length (now pyramid)) ⌝ }
@@ -202,14 +213,8 @@ fn make_range(
             hshift: 0,
             vshift: 0,
         };
-        let avg = Source {
-            made: made[k],
-            start: starts[k],
-        };
-        let res = Source {
-            made: made[r],
-            start: starts[r],
-        };
+        let avg = source_at(starts, made, k);
+        let res = source_at(starts, made, r);
         make_channel(
             c,
             step.horizontal,

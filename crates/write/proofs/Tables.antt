@@ -1,10 +1,10 @@
 -- Tables of a function of the index put together: one more entry, sums and joined parts. Assumes nothing.
-use mathlib.Core.Path.{_≡_, refl, ap, _∙_}
+use mathlib.Core.Path.{_≡_, refl, _∙_}
 use mathlib.Core.List.{List, [], _∷_, _++_, append-nil}
 use Prim.Native.Nat.{ℕ, zero, suc, _+_, _-_, _<_, _≤_}
 use native.Mathlib.Omega.{arith}
 use lib.IntN.{ℤ}
-use Rattle.list.specs.Tables.{table, map}
+use Rattle.list.specs.Tables.{table}
 use Rattle.list.proofs.Tables.{table-rest}
 use Rattle.places.specs.Places.{sum}
 use Rattle.places.proofs.Arrays.{table-join}

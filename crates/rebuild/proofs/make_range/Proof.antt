@@ -78,38 +78,35 @@ mul-t26 c = search needs
 element-copy-out-t29 : tie.Need-element-copy-out-t29 Inv-loop μ-loop
 element-copy-out-t29 c = search needs
 
-shared-slice-read-t21 : tie.Need-shared-slice-read-t21 Inv-loop μ-loop
-shared-slice-read-t21 c = search needs
+source-at-requires : tie.Need-source-at-requires Inv-loop μ-loop
+source-at-requires c κs =
+    let start = c .before .before .before .before .before .before .before .before .before in
+    let f = start .pre in
+    let w = within (c .before .before) in
+    let n = long start in
+    (omega (arith, w, n, f .room, f .starts-long), omega (arith, w, n, f .room, f .made-long))
 
-mul-make-channel : tie.Need-mul-make-channel Inv-loop μ-loop
-mul-make-channel c = search needs
-
-shared-slice-read-make-channel : tie.Need-shared-slice-read-make-channel Inv-loop μ-loop
-shared-slice-read-make-channel c = search needs
-
-shared-slice-read-t21-2 : tie.Need-shared-slice-read-t21-2 Inv-loop μ-loop
-shared-slice-read-t21-2 c = rw (c .before .before .before .before .before .before .before .before .before .before .before .before .pre .made-long) (inside (c .before .before .before .before .before))
-
-mul-make-channel-2 : tie.Need-mul-make-channel-2 Inv-loop μ-loop
-mul-make-channel-2 c = omega (arith, inside (c .before .before .before .before .before))
-
-shared-slice-read-make-channel-2 : tie.Need-shared-slice-read-make-channel-2 Inv-loop μ-loop
-shared-slice-read-make-channel-2 c = rw (c .before .before .before .before .before .before .before .before .before .before .before .before .before .pre .starts-long) (inside (c .before .before .before .before .before .before))
+source-at-requires-2 : tie.Need-source-at-requires-2 Inv-loop μ-loop
+source-at-requires-2 c κs =
+    let f = c .before .before .before .before .before .before .before .before .before .before .pre in
+    let w = inside (c .before .before .before) in
+    (omega (arith, w, f .starts-long), omega (arith, w, f .made-long))
 
 element-copy-out-make-channel : tie.Need-element-copy-out-make-channel Inv-loop μ-loop
 element-copy-out-make-channel c = search needs
 
-mul-make-channel-3 : tie.Need-mul-make-channel-3 Inv-loop μ-loop
-mul-make-channel-3 c = search needs
+mul-make-channel : tie.Need-mul-make-channel Inv-loop μ-loop
+mul-make-channel c = search needs
 
 element-copy-out-make-channel-2 : tie.Need-element-copy-out-make-channel-2 Inv-loop μ-loop
 element-copy-out-make-channel-2 c = search needs
 
 make-channel-requires : tie.Need-make-channel-requires Inv-loop μ-loop
 make-channel-requires c κs =
-    let turn = c .before .before .before .before .before .before .before .before .before .before in
-    let start = turn .before .before .before .before .before .before .before in
-    put-fits _ _ _ _ _ _ _ (start .pre) (turn .before .loop .i) (turn .loop-test .taken) _ _ (turn .before .loop .inv .4) _ (at start _ (within turn)) _ (rests turn)
+    let turn = c .before .before .before .before .before .before .before .before in
+    let start = c .before .before .before .before .before .before .before .before .before .before .before .before .before .before .before in
+    rw (c .before .before .before .before .before .source-at .ensures, c .before .before .before .before .source-at2 .ensures)
+    (put-fits _ _ _ _ _ _ _ (start .pre) (turn .before .loop .i) (turn .loop-test .taken) _ _ (turn .before .loop .inv .4) _ (at start _ (within turn)) _ (rests turn))
 
 add-i : tie.Need-add-i Inv-loop μ-loop
 add-i c = search needs
@@ -119,14 +116,15 @@ loop-less c = search needs
 
 loop-again : tie.Need-loop-again Inv-loop μ-loop
 loop-again c =
-    let turn = c .before .before .before .before .before .before .before .before .before .before .before .before .before in
-    let start = turn .before .before .before .before .before .before .before in
+    let turn = c .before .before .before .before .before .before .before .before .before .before .before in
+    let start = c .before .before .before .before .before .before .before .before .before .before .before .before .before .before .before .before .before .before in
     let i = turn .before .loop .inv in (
       refl,
       refl,
       i .2,
       omega (arith, turn .loop-test .taken),
-      taken-more _ _ _ _ _ _ _ (start .pre) (turn .before .loop .i) (turn .loop-test .taken) _ _ (i .4) _ (at start _ (within turn)) _ (rests turn) _ _ (c .before .before .make-channel .ensures),
+      taken-more _ _ _ _ _ _ _ (start .pre) (turn .before .loop .i) (turn .loop-test .taken) _ _ (i .4) _ (at start _ (within turn)) _ (rests turn) _ _
+          (rw (c .before .before .before .before .before .before .before .before .source-at .ensures, c .before .before .before .before .before .before .before .source-at2 .ensures) at (c .before .before .make-channel .ensures)),
     )
 
 same-length : tie.Need-same-length Inv-loop μ-loop
@@ -156,14 +154,10 @@ make-range-spec =
     element-copy-out-t25
     mul-t26
     element-copy-out-t29
-    shared-slice-read-t21
-    mul-make-channel
-    shared-slice-read-make-channel
-    shared-slice-read-t21-2
-    mul-make-channel-2
-    shared-slice-read-make-channel-2
+    source-at-requires
+    source-at-requires-2
     element-copy-out-make-channel
-    mul-make-channel-3
+    mul-make-channel
     element-copy-out-make-channel-2
     make-channel-requires
     add-i
