@@ -9,7 +9,7 @@ use lib.ListN.{length}
 use Rattle.numbers.specs.Numbers.{maxSide}
 use Rattle.line.specs.Forward.{averagesOf, residualsOf}
 
--- "Sides are at most 65,535", so that the lengths can be told
+-- no side above the limit, so that the lengths can be told
 unfoldable pub slicesFit : ℕ → ℕ → List ℤ → List ℤ → Bool
 slicesFit lines size xs out =
     (leb lines maxSide && leb size maxSide) && (eqb (length xs) (lines * size) && eqb (length out) (lines * size))

@@ -1,21 +1,23 @@
 -- What no refusal says of a list and of a step, by the order of the questions. Assumes nothing.
 use mathlib.Core.Path.{_≡_, refl}
-use mathlib.Core.Bool.{and-eq-true-iff}
+use mathlib.Core.Bool.{true, and-eq-true-iff}
 use mathlib.Core.List.{List}
-use Prim.Native.Nat.{_+_, _≤_}
+use Prim.Native.Nat.{ℕ, _+_, _<_, _≤_}
 use native.Mathlib.Omega.{arith}
 use lib.Dec.{leb}
 use lib.ListN.{length}
 use borrow.Author.Tests.{leb-true, le-leb}
 use Rattle.channel.specs.declared.Channel.{Channel}
+use Rattle.channel.specs.Channel.{shiftsAllowed, sidesFit, isAllowed}
 use Rattle.list.specs.declared.ChannelList.{ChannelList}
 use Rattle.list.specs.declared.Step.{Step}
 use Rattle.list.specs.Tables.{all}
 use Rattle.list.specs.Lists.{maxChannels, channels, packed, range}
-use Rattle.list.specs.Questions.{countAllowed, channelsAllowed, totalAllowed, judgeList, rangeAllowed, kindsAlike, placeAllowed, hasSides, shiftsKept, roomLeft, judgeStep}
+use Rattle.list.specs.Questions.{countAllowed, metaFirst, channelsAllowed, totalAllowed, judgeList, channelOf, rangeAllowed, kindsAlike, placeAllowed, hasSides, shiftsKept, roomLeft, judgeStep}
 use Rattle.list.specs.Accepted.{Accepted, StepAccepted}
 use Rattle.list.proofs.Channels.{range-inside, channels-length}
 use Rattle.list.proofs.Packed.{channels-packed}
+use Rattle.list.proofs.Maps.{all-at, both-all}
 use Rattle.list.proofs.Asking.{passed}
 
 packed-count : (cs : List Channel) → packed cs .count ≡ length cs
@@ -38,6 +40,14 @@ list-accepted l h =
     let c = count-inside l h in
     let n = channels-length l in
     record { some = omega arith; few = omega arith; allowed = p4 .0; samples = p5 .0 }
+
+-- question 4 of the channels: their shifts and their sides
+pub allowed-both : (cs : List Channel) → channelsAllowed cs ≡ true → (all shiftsAllowed cs ≡ true) × (all sidesFit cs ≡ true)
+unfolding channelsAllowed isAllowed
+allowed-both cs a = both-all shiftsAllowed sidesFit cs (and-eq-true-iff (all isAllowed cs) (metaFirst cs) .0 a .0)
+
+pub accepted-sides : (cs : List Channel) → Accepted cs → (k : ℕ) → k < length cs → sidesFit (channelOf cs k) ≡ true
+accepted-sides cs ok k h = all-at sidesFit cs k _ (allowed-both cs (ok .allowed) .1) h
 
 pub accepted-packed : (cs : List Channel) → judgeList (packed cs) ≡ 0 → Accepted cs
 accepted-packed cs h = rw (channels-packed cs (rw (packed-count cs) at (count-inside (packed cs) h .1))) at (list-accepted (packed cs) h)

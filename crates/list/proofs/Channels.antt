@@ -5,7 +5,7 @@ use mathlib.Core.List.{List}
 use Prim.Native.Nat.{ℕ, _+_, _-_, _<_, _≤_, min}
 use native.Mathlib.Omega.{arith}
 use lib.Dec.{leb}
-use lib.ListN.{length, take}
+use lib.ListN.{length}
 use borrow.Author.Tests.{leb-true}
 use Rattle.channel.specs.declared.Channel.{Channel}
 use Rattle.channel.specs.Channel.{isMeta}
@@ -14,7 +14,7 @@ use Rattle.list.specs.declared.Step.{Step}
 use Rattle.list.specs.Tables.{table}
 use Rattle.list.specs.Lists.{maxChannels, channelAt, channels, range}
 use Rattle.list.specs.Questions.{channelOf, rangeAllowed}
-use Rattle.list.proofs.Tables.{table-length, table-at, table-first, table-within}
+use Rattle.list.proofs.Tables.{table-length, table-at, table-within}
 
 -- question 7
 pub range-inside : (s : Step) (cs : List Channel) → rangeAllowed s cs ≡ true → (1 ≤ s .number) × (s .begin + s .number ≤ length cs)
@@ -24,16 +24,10 @@ range-inside s cs h =
     (leb-true _ _ (b .0), leb-true _ _ (b .1))
 
 module _ (l : ChannelList) where
-  -- what a loop over the channels, or over the first n, has left where it begins
+  -- what a loop over the channels has left where it begins
   pub channels-all : (n : ℕ) → n ≡ min (l .count) maxChannels → table (channelAt l) 0 (n - 0) ≡ channels l
   unfolding channels
   channels-all n e = let z : n - 0 ≡ min (l .count) maxChannels = omega arith in ap (table (channelAt l) 0) z
-
-  pub channels-front : (n end : ℕ) → end ≡ min n (min (l .count) maxChannels) → table (channelAt l) 0 (end - 0) ≡ take n (channels l)
-  unfolding channels
-  channels-front n end e =
-      let z : end - 0 ≡ min n (min (l .count) maxChannels) = omega arith in
-      ap (table (channelAt l) 0) z ∙ sym (table-first (channelAt l) 0 (min (l .count) maxChannels) n)
 
   pub channels-length : length (channels l) ≡ min (l .count) maxChannels
   unfolding channels

@@ -3,18 +3,19 @@
 use mathlib.Core.Path.{_≡_, refl, ap, _∙_}
 use mathlib.Core.Bool.{Bool, true, false, not, and-eq-true-iff}
 use mathlib.Core.List.{List, _++_}
-use Prim.Native.Nat.{ℕ, suc, _+_, _-_}
+use Prim.Native.Nat.{ℕ, suc, _+_, _-_, _≤_}
 use native.Mathlib.Omega.{arith}
 use lib.Seq.{take-add}
 use Rattle.channel.specs.declared.Channel.{Channel}
-use Rattle.channel.specs.Channel.{isMeta, shiftsAllowed}
+use Rattle.channel.specs.Channel.{isMeta, shiftsAllowed, sidesFit, isAllowed}
+use Rattle.channel.proofs.Sides.{fit-sides, sides-fit}
 use Rattle.list.specs.declared.Step.{Step}
 use Rattle.list.specs.Tables.{map, all}
 use Rattle.list.specs.Lists.{halved, rest, raised, sided, average, residual, before, range, after, stepped}
 use Rattle.list.specs.Questions.{metaFirst, channelsAllowed, totalAllowed, channelOf, kindsAlike, placeAllowed, shiftsKept}
 use Rattle.list.specs.Accepted.{Accepted, StepAccepted}
-use Rattle.list.proofs.Maps.{all-map, all-parts, all-append}
-use Rattle.list.proofs.Shifts.{part-allowed, part-kind}
+use Rattle.list.proofs.Maps.{all-map, all-parts, all-append, all-both, both-all}
+use Rattle.list.proofs.Shifts.{part-allowed, part-kind, raised-width, raised-height}
 use Rattle.list.proofs.Parts.{averages, residuals, joined, following, range-after, parts-whole}
 use Rattle.list.proofs.Entries.{stepped-length}
 use Rattle.list.proofs.MetaFirst.{plain, metas-before, plains-after, first-parts, metas-to, plains-from}
@@ -108,18 +109,41 @@ module _ (s : Step) (cs : List Channel) where
           go true e = metas-kept e
           go false e = plains-kept e
 
+-- the parts of a channel have no side above its own
+parts-below : (g : ℕ → ℕ) → ((n : ℕ) → g n ≤ n) → (h : Bool) (c : Channel)
+    → (raised h (sided g h c) .width ≤ c .width) × (raised h (sided g h c) .height ≤ c .height)
+parts-below g less true c = (omega (arith, raised-width true (sided g true c), less (c .width)), omega (arith, raised-height true (sided g true c)))
+parts-below g less false c = (omega (arith, raised-width false (sided g false c)), omega (arith, raised-height false (sided g false c), less (c .height)))
+
+-- a test that smaller sides pass too stays passed
+module _ (p : Channel → Bool) (smaller : (c d : Channel) → d .width ≤ c .width → d .height ≤ c .height → p c ≡ true → p d ≡ true) where
+  pub stepped-keeps : (s : Step) (cs : List Channel) → all p cs ≡ true → all p (stepped s cs) ≡ true
+  unfolding average residual
+  stepped-keeps s cs a =
+      let q = parts-all s cs p a in
+      let part : (ℕ → ℕ) → Channel → Channel = λ g c. raised (s .horizontal) (sided g (s .horizontal) c) in
+      let below : (g : ℕ → ℕ) → ((n : ℕ) → g n ≤ n) → (c : Channel) → p c ≡ true → p (part g c) ≡ true
+      = λ g less c t. let l = parts-below g less (s .horizontal) c in smaller c (part g c) (l .0) (l .1) t in
+      let parts : (g : ℕ → ℕ) → ((n : ℕ) → g n ≤ n) → all p (map (part g) (range s cs)) ≡ true
+      = λ g less. all-map (part g) p p p (λ c t _. below g less c t) (range s cs) (q .1) (q .1) in
+      stepped-all s cs p (q .0) (parts halved (λ n. omega arith)) (parts rest (λ n. omega arith)) (q .2)
+
+smaller-fit : (c d : Channel) → d .width ≤ c .width → d .height ≤ c .height → sidesFit c ≡ true → sidesFit d ≡ true
+smaller-fit c d w h f = let m = fit-sides c f in sides-fit d (omega arith) (omega arith)
+
 pub stepped-allowed : (s : Step) (cs : List Channel) → StepAccepted s cs → Accepted cs → Accepted (stepped s cs)
-unfolding channelsAllowed totalAllowed
+unfolding channelsAllowed totalAllowed isAllowed
 stepped-allowed s cs ok was =
     let n = stepped-length s cs (ok .inside) in
-    let a = and-eq-true-iff (all shiftsAllowed cs) (metaFirst cs) .0 (was .allowed) in
+    let a = and-eq-true-iff (all isAllowed cs) (metaFirst cs) .0 (was .allowed) in
+    let b = both-all shiftsAllowed sidesFit cs (a .0) in
     let r = ok .room in
     let o = was .some in
     record {
       some = omega arith;
       few = omega arith;
       allowed =
-          and-eq-true-iff (all shiftsAllowed (stepped s cs)) (metaFirst (stepped s cs)) .1
-          (stepped-shifts s cs ok (a .0), stepped-meta-first s cs ok (a .0) (a .1));
+          and-eq-true-iff (all isAllowed (stepped s cs)) (metaFirst (stepped s cs)) .1
+          (all-both shiftsAllowed sidesFit (stepped s cs) (stepped-shifts s cs ok (b .0)) (stepped-keeps sidesFit smaller-fit s cs (b .1)), stepped-meta-first s cs ok (b .0) (a .1));
       samples = rw (stepped-total s cs) (was .samples);
     }

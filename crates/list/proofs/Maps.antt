@@ -39,6 +39,22 @@ module _ {ℓ} {A : Type ℓ} where
   all-at p (x ∷ xs) zero d a h = and-eq-true-iff (p x) (all p xs) .0 a .0
   all-at p (x ∷ xs) (suc i) d a h = all-at p xs i d (and-eq-true-iff (p x) (all p xs) .0 a .1) (omega arith)
 
+  -- two tests of every element are one
+  pub all-both : (p q : A → Bool) (xs : List A) → all p xs ≡ true → all q xs ≡ true → all (λ x. p x && q x) xs ≡ true
+  all-both p q [] a b = refl
+  all-both p q (x ∷ xs) a b =
+      let u = and-eq-true-iff (p x) (all p xs) .0 a in
+      let v = and-eq-true-iff (q x) (all q xs) .0 b in
+      rw (u .0, v .0) (all-both p q xs (u .1) (v .1))
+
+  pub both-all : (p q : A → Bool) (xs : List A) → all (λ x. p x && q x) xs ≡ true → (all p xs ≡ true) × (all q xs ≡ true)
+  both-all p q [] a = (refl, refl)
+  both-all p q (x ∷ xs) a =
+      let u = and-eq-true-iff (p x && q x) (all (λ y. p y && q y) xs) .0 a in
+      let v = and-eq-true-iff (p x) (q x) .0 (u .0) in
+      let w = both-all p q xs (u .1) in
+      (rw (v .0) (w .0), rw (v .1) (w .1))
+
   all-split : (p : A → Bool) (xs ys : List A) → all p (xs ++ ys) ≡ all p xs && all p ys
   all-split p [] ys = refl
   all-split p (x ∷ xs) ys = ap (λ b. p x && b) (all-split p xs ys) ∙ sym (and-assoc (p x) (all p xs) (all p ys))

@@ -9,7 +9,7 @@ use lib.ListN.{length, take, drop, take-append-drop}
 use lib.Seq.{drop-nil}
 use borrow.Author.Tests.{not-true}
 use Rattle.channel.specs.declared.Channel.{Channel}
-use Rattle.channel.specs.Channel.{isMeta, shiftsAllowed}
+use Rattle.channel.specs.Channel.{isMeta, isAllowed}
 use Rattle.list.specs.Tables.{table, all}
 use Rattle.list.specs.Questions.{metaFirst, channelOf}
 use Rattle.list.proofs.Tables.{table-rest}
@@ -20,13 +20,13 @@ plain c = not (isMeta c)
 
 -- whether cs may stand after channels of which the last is meta (false) or not (true)
 abbrev pub allowedAfter : Bool → List Channel → Bool
-allowedAfter after cs = all shiftsAllowed cs && cond after (all plain cs) (metaFirst cs)
+allowedAfter after cs = all isAllowed cs && cond after (all plain cs) (metaFirst cs)
 
 pub allowed-end : (after : Bool) → allowedAfter after [] ≡ true
 allowed-end true = refl
 allowed-end false = refl
 
--- one channel's answers: a to its shifts, m its kind, and p that the one before is not meta
+-- one channel's answers: a to question 4 of it alone, m its kind, and p that the one before is not meta
 refused : (p a m x n f : Bool) → (not a || (p && m)) ≡ true → ((a && x) && cond p (not m && n) (cond m f n)) ≡ false
 refused p false m x n f h = refl
 refused true true true true n f h = refl
@@ -42,7 +42,7 @@ passed false true true x n f h = refl
 passed false true false x n f h = refl
 
 -- the channels from k on, where v, its answer a to question 4 and its kind m were found at k
-module _ (f : ℕ → Channel) (k n : ℕ) (after a m : Bool) (v : Channel) (h : k < n) (ev : v ≡ f k) (ea : a ≡ shiftsAllowed v) (em : m ≡ isMeta v) where
+module _ (f : ℕ → Channel) (k n : ℕ) (after a m : Bool) (v : Channel) (h : k < n) (ev : v ≡ f k) (ea : a ≡ isAllowed v) (em : m ≡ isMeta v) where
   pub allowed-stop : (not a || (after && m)) ≡ true → false ≡ allowedAfter after (table f k (n - k))
   allowed-stop t = rw (table-rest f k n h, ← ev, ← ea, ← em) (sym (refused after a m _ _ _ t))
 

@@ -7,6 +7,7 @@ use lib.Dec.{leb, ltb}
 use borrow.Author.Tests.{ltb-true, ltb-false, leb-true, le-leb, lt-leb, ne-eqb}
 use Rattle.channel.specs.declared.Channel.{Channel}
 use Rattle.channel.specs.Channel.{maxShift, metaShift, isMeta, shiftsAllowed}
+use Rattle.channel.proofs.Shifts.{plain-shifts}
 use Rattle.list.specs.Lists.{raised, sided}
 use Rattle.list.specs.Questions.{shiftsKept}
 
@@ -31,6 +32,23 @@ raised-meta h c e = rw e
 pub raised-plain : (h : Bool) (c : Channel) → isMeta c ≡ false → raised h c ≡ lifted h c
 unfolding raised
 raised-plain h c e = rw e
+
+-- its sides stay
+pub raised-width : (h : Bool) (c : Channel) → raised h c .width ≡ c .width
+unfolding raised
+raised-width h c = go (isMeta c)
+  where
+    go : (m : Bool) → cond m c (lifted h c) .width ≡ c .width
+    go true = refl
+    go false = refl
+
+pub raised-height : (h : Bool) (c : Channel) → raised h c .height ≡ c .height
+unfolding raised
+raised-height h c = go (isMeta c)
+  where
+    go : (m : Bool) → cond m c (lifted h c) .height ≡ c .height
+    go true = refl
+    go false = refl
 
 lifted-plain : (h : Bool) (c : Channel) → (c .hshift ≤ maxShift) × (c .vshift ≤ maxShift) → isMeta (lifted h c) ≡ false
 unfolding isMeta
@@ -82,13 +100,6 @@ sided-found g true c s e = rw e
 sided-found g false c s e = rw e
 
 -- ---- the two parts that a step makes of a channel: g is `halved` or `rest`
--- shifts that are allowed and not meta's
-plain-shifts : (c : Channel) → shiftsAllowed c ≡ true → isMeta c ≡ false → (c .hshift ≤ maxShift) × (c .vshift ≤ maxShift)
-unfolding shiftsAllowed
-plain-shifts c a e =
-    let b = and-eq-true-iff (leb (c .hshift) maxShift) (leb (c .vshift) maxShift) .0 (rw e at a) in
-    (leb-true _ _ (b .0), leb-true _ _ (b .1))
-
 meta-allowed : (c : Channel) → isMeta c ≡ true → shiftsAllowed c ≡ true
 unfolding shiftsAllowed
 meta-allowed c e = rw e

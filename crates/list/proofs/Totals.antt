@@ -5,29 +5,38 @@ use mathlib.Core.Bool.{Bool, true, false, cond}
 use mathlib.Core.List.{List, [], _∷_, _++_}
 use Prim.Native.Nat.{ℕ, _+_, _*_, _-_, _<_, _≤_}
 use native.Mathlib.Omega.{arith}
-use native.Mathlib.Nat.{mul-le-mul, add-mul, mul-add}
+use native.Mathlib.Nat.{add-mul, mul-add}
+use borrow.Author.Tests.{leb-true, le-leb, lt-leb}
+use Rattle.numbers.specs.Numbers.{maxSamples}
 use Rattle.channel.specs.declared.Channel.{Channel}
 use Rattle.channel.specs.Channel.{isMeta, samples}
 use Rattle.list.specs.declared.Step.{Step}
 use Rattle.list.specs.Tables.{table, map}
 use Rattle.list.specs.Lists as Lists
 use Rattle.list.specs.Lists.{halved, raised, sided, average, residual, before, range, after, stepped, total}
+use Rattle.list.specs.Questions.{totalAllowed, countedTotal}
 use Rattle.list.proofs.Tables.{table-rest}
 use Rattle.list.proofs.Shifts.{lifted}
 use Rattle.list.proofs.Parts.{averages, residuals, joined, following, parts-whole}
-
--- the most samples that 16-bit sides give
-abbrev pub mostSamples : ℕ
-mostSamples = 65535 * 65535
-
-pub samples-most : (c : Channel) → c .width < 65536 → c .height < 65536 → samples c ≤ mostSamples
-unfolding samples
-samples-most c w h = mul-le-mul {n₂ = 65535} {m₂ = 65535} (omega arith) (omega arith)
 
 -- the sum t so far, once v was found at k with s samples
 pub total-next : (f : ℕ → Channel) (k n t s : ℕ) (v : Channel) → k < n → v ≡ f k → s ≡ samples v
     → t + s + total (table f (k + 1) (n - (k + 1))) ≡ t + total (table f k (n - k))
 total-next f k n t s v h ev es = rw (table-rest f k n h, ← ev, ← es) (omega arith)
+
+-- ---- the samples counted up to one past the limit, against question 5
+module _ (cs : List Channel) where
+  pub counted-over : (n : ℕ) → n ≡ countedTotal cs → maxSamples < n → totalAllowed cs ≡ false
+  unfolding countedTotal totalAllowed
+  counted-over n e h = lt-leb (total cs) maxSamples (omega arith)
+
+  pub counted-within : (n : ℕ) → n ≡ countedTotal cs → n ≤ maxSamples → totalAllowed cs ≡ true
+  unfolding countedTotal totalAllowed
+  counted-within n e h = le-leb (total cs) maxSamples (omega arith)
+
+  pub counted-exact : totalAllowed cs ≡ true → countedTotal cs ≡ total cs
+  unfolding countedTotal totalAllowed
+  counted-exact a = omega (arith, leb-true (total cs) maxSamples a)
 
 -- ---- a step
 halves-whole : (side : ℕ) → halved side + Lists.rest side ≡ side

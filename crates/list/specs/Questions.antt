@@ -2,12 +2,12 @@
 -- that there is none. Definitions only.
 use mathlib.Core.Bool.{Bool, true, cond, _&&_, _||_, not}
 use mathlib.Core.List.{List, [], _∷_}
-use Prim.Native.Nat.{ℕ, _+_, _-_}
+use Prim.Native.Nat.{ℕ, _+_, _-_, min}
 use lib.Dec.{eqb, leb, ltb}
 use lib.ListN.{length, getD}
 use Rattle.numbers.specs.Numbers.{maxSamples, refusedCount, refusedForm, refusedSamples, refusedRange, refusedKinds, refusedPlace, refusedEmpty, refusedRoom}
 use Rattle.channel.specs.declared.Channel.{Channel}
-use Rattle.channel.specs.Channel.{maxShift, isMeta, shiftsAllowed}
+use Rattle.channel.specs.Channel.{maxShift, isMeta, isAllowed}
 use Rattle.list.specs.declared.ChannelList.{ChannelList}
 use Rattle.list.specs.declared.Step.{Step}
 use Rattle.list.specs.declared.Stepped.{Stepped}
@@ -32,13 +32,17 @@ abbrev pub metaFirst : List Channel → Bool
 metaFirst [] = true
 metaFirst (c ∷ cs) = cond (isMeta c) (metaFirst cs) (noMeta cs)
 
--- 4. "Are shifts 0 to 30 or both 255, meta channels first"
+-- 4. "Are shifts 0 to 30 or both 255, meta channels first", and no side above the limit (A.8)
 unfoldable pub channelsAllowed : List Channel → Bool
-channelsAllowed cs = all shiftsAllowed cs && metaFirst cs
+channelsAllowed cs = all isAllowed cs && metaFirst cs
 
 -- 5. "Do all samples of the list .. number at most 16,777,216?"
 unfoldable pub totalAllowed : List Channel → Bool
 totalAllowed cs = leb (total cs) maxSamples
+
+-- the samples of a list, counted up to one past the limit
+unfoldable pub countedTotal : List Channel → ℕ
+countedTotal cs = min (total cs) (maxSamples + 1)
 
 unfoldable pub judgeList : ChannelList → ℕ
 judgeList l =

@@ -7,7 +7,7 @@ ghost use mathlib.Core.Path.{_≡_};
 ghost use mathlib.Core.Bool.{true, false, cond};
 ghost use mathlib.Core.List.{[]};
 ghost use Prim.Native.Nat.{_+_, _<_, min};
-ghost use lib.ListN.{take, getD};
+ghost use lib.ListN.{getD};
 ghost use Rattle.channel.specs.Channel.{metaShift, isMeta};
 ghost use Rattle.list.specs.Tables.{all};
 ghost use Rattle.list.specs.Lists as Lists;
@@ -26,8 +26,8 @@ use numbers::REFUSED_SAMPLES;
 
 pub struct ChannelList {
     pub count: usize,
-    pub widths: [u16; 256],
-    pub heights: [u16; 256],
+    pub widths: [u32; 256],
+    pub heights: [u32; 256],
     pub hshifts: [u8; 256],
     pub vshifts: [u8; 256],
 }
@@ -48,14 +48,14 @@ pub struct Stepped {
 }
 
 // The side in the step's direction.
-fn side(c: Channel, horizontal: bool) -> u16
+fn side(c: Channel, horizontal: bool) -> u32
     ensures { λ r. ⌜ r ≡ cond horizontal (c .width) (c .height) ⌝ }
 {
     if horizontal { c.width } else { c.height }
 }
 
 // The channel with another side in the step's direction.
-fn with_side(c: Channel, horizontal: bool, side: u16) -> Channel
+fn with_side(c: Channel, horizontal: bool, side: u32) -> Channel
     ensures { λ r. ⌜ r ≡ Lists.sided (λ _. side) horizontal c ⌝ }
 {
     let mut sided = c;
@@ -109,10 +109,10 @@ fn keeps_shifts(c: Channel, horizontal: bool) -> bool
 }
 
 // "the side halved, rounded up".
-pub fn halved(side: u16) -> u16
+pub fn halved(side: u32) -> u32
     ensures { λ r. ⌜ r ≡ Lists.halved side ⌝ }
 {
-    ((side as u32 + 1) / 2) as u16
+    side - side / 2
 }
 
 fn average(c: Channel, horizontal: bool) -> Channel
@@ -173,7 +173,7 @@ fn entry(c: Channel, step: Step, residuals: usize, k: usize) -> Channel
 }
 
 // Entry `k` of an array of sides, 0 past it.
-fn side_at(sides: &[u16], k: usize) -> u16
+fn side_at(sides: &[u32], k: usize) -> u32
     ensures { λ r. ⌜ r ≡ getD (now (sides .entry)) k 0 ⌝ }
 {
     if k < sides.len() { sides[k] } else { 0 }
@@ -188,8 +188,8 @@ fn shift_at(shifts: &[u8], k: usize) -> u8
 
 // Entry `k` of flat arrays, zeros past them.
 pub fn entry_of<'a>(
-    widths: &'a [u16; 256],
-    heights: &'a [u16; 256],
+    widths: &'a [u32; 256],
+    heights: &'a [u32; 256],
     hshifts: &'a [u8; 256],
     vshifts: &'a [u8; 256],
     k: usize,
@@ -208,8 +208,8 @@ pub fn entry_of<'a>(
 pub fn store(
     c: Channel,
     k: usize,
-    widths: &mut [u16; 256],
-    heights: &mut [u16; 256],
+    widths: &mut [u32; 256],
+    heights: &mut [u32; 256],
     hshifts: &mut [u8; 256],
     vshifts: &mut [u8; 256],
 )
@@ -240,8 +240,8 @@ impl ChannelList {
     {
         ChannelList {
             count: 0,
-            widths: [0u16; 256],
-            heights: [0u16; 256],
+            widths: [0u32; 256],
+            heights: [0u32; 256],
             hshifts: [0u8; 256],
             vshifts: [0u8; 256],
         }
@@ -274,7 +274,7 @@ impl ChannelList {
         for k in 0..count {
             let c = entry_of(&self.widths, &self.heights, &self.hshifts, &self.vshifts, k);
             let meta = c.is_meta();
-            if !c.has_shifts_allowed() | (plain & meta) {
+            if !c.is_allowed() | (plain & meta) {
                 return false;
             }
             plain = !meta;
@@ -282,32 +282,21 @@ impl ChannelList {
         true
     }
 
-    // `n`, or the count of the channels where that is less.
-    fn within(self, n: usize) -> usize
-        ensures { λ r. ⌜ r ≡ min n (min (self .count) Lists.maxChannels) ⌝ }
+    // All samples of the list, counted up to one past the limit.
+    pub fn total(self) -> u64
+        ensures { λ r. ⌜ r ≡ Questions.countedTotal (Lists.channels self) ⌝ }
     {
         let count = self.len();
-        if n < count { n } else { count }
-    }
-
-    // The samples of the first `n` channels.
-    pub fn samples_before(self, n: usize) -> usize
-        ensures { λ r. ⌜ r ≡ Lists.total (take n (Lists.channels self)) ⌝ }
-    {
-        let end = self.within(n);
         let mut sum = 0u64;
-        for k in 0..end {
+        for k in 0..count {
             let c = entry_of(&self.widths, &self.heights, &self.hshifts, &self.vshifts, k);
-            sum += c.samples();
+            let more = c.samples();
+            if ChannelList::MAX_SAMPLES - sum < more {
+                return ChannelList::MAX_SAMPLES + 1;
+            }
+            sum += more;
         }
-        sum as usize
-    }
-
-    // All samples of the list.
-    pub fn total(self) -> u64
-        ensures { λ r. ⌜ r ≡ Lists.total (Lists.channels self) ⌝ }
-    {
-        self.samples_before(ChannelList::MAX_CHANNELS) as u64
+        sum
     }
 
     // Questions 3 to 5.
@@ -449,8 +438,8 @@ impl ChannelList {
     {
         let count = self.len() + step.number as usize;
         let residuals = self.residuals_at(step);
-        let mut widths = [0u16; 256];
-        let mut heights = [0u16; 256];
+        let mut widths = [0u32; 256];
+        let mut heights = [0u32; 256];
         let mut hshifts = [0u8; 256];
         let mut vshifts = [0u8; 256];
         for k in 0..count {

@@ -1,9 +1,9 @@
--- The numbers of document 01 that more than one crate uses: two limits, and what each refusal answers ("The questions"). Definitions only.
+-- The numbers of documents 01 and 02 that more than one crate uses: two limits, and what each refusal answers ("The questions"). Definitions only.
 use Prim.Native.Nat.{ℕ}
 
--- "Sides are at most 65,535"
+-- A.8: "Raise a side's limit to 1,048,575, in tile calls too"
 abbrev pub maxSide : ℕ
-maxSide = 65_535
+maxSide = 1_048_575
 
 -- 5. ".. number at most 16,777,216?"
 abbrev pub maxSamples : ℕ
@@ -21,7 +21,7 @@ refusedField = 2
 abbrev pub refusedCount : ℕ
 refusedCount = 3
 
--- 4. "Are shifts 0 to 30 or both 255, meta channels first, other flag bits 0?"
+-- 4. "Are shifts 0 to 30 or both 255, meta channels first, other flag bits 0?" A.8: "a side above the limit, is refused with 4"
 abbrev pub refusedForm : ℕ
 refusedForm = 4
 

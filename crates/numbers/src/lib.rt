@@ -1,8 +1,8 @@
-// The numbers of document 01 that more than one crate uses: two limits, and what
-// each refusal answers. specs/Numbers.antt has the same for definitions.
+// The numbers of documents 01 and 02 that more than one crate uses: two limits, and
+// what each refusal answers. specs/Numbers.antt has the same for definitions.
 
-// "Sides are at most 65,535."
-pub const MAX_SIDE: usize = 65_535;
+// A.8: "Raise a side's limit to 1,048,575, in tile calls too".
+pub const MAX_SIDE: usize = 1_048_575;
 
 // Question 5: "Do all samples of the list, or of each rectangle of a tile call,
 // number at most 16,777,216?"

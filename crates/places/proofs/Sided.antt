@@ -1,4 +1,5 @@
--- Places with the sides of a list's channels (`Sided`): a step keeps them so, and they have the channels' samples. Assumes nothing.
+-- Places with the sides of a list's channels (`Sided`): a step keeps them so, they have the channels' samples, and sides that fit where the list is
+-- accepted. Assumes nothing.
 use mathlib.Core.Path.{_≡_, refl, ap, _∙_}
 use mathlib.Core.Bool.{Bool, true, false, cond}
 use mathlib.Core.List.{List}
@@ -6,14 +7,16 @@ use Prim.Native.Nat.{ℕ, _+_, _-_, _<_, _≤_}
 use native.Mathlib.Omega.{arith}
 use lib.ListN.{length}
 use Rattle.channel.specs.declared.Channel.{Channel}
-use Rattle.channel.specs.Channel.{isMeta, samples}
+use Rattle.channel.specs.Channel.{sidesFit, isMeta, samples}
 use Rattle.list.specs.declared.Step.{Step}
 use Rattle.list.specs.Lists as Lists
 use Rattle.list.specs.Lists.{halved, rest, raised, sided, stepped}
 use Rattle.list.specs.Questions.{channelOf}
+use Rattle.list.specs.Accepted.{Accepted}
+use Rattle.list.proofs.Acceptance.{accepted-sides}
 use Rattle.list.proofs.Shifts.{lifted}
 use Rattle.list.proofs.Entries as Entries
-use Rattle.places.specs.Places.{Place, area, averagePlace, residualPlace, stepPlaces, residualsAt, placeOf}
+use Rattle.places.specs.Places.{Place, bare, area, averagePlace, residualPlace, stepPlaces, residualsAt, placeOf}
 use Rattle.places.specs.Laid.{Sided}
 use Rattle.places.proofs.Steps.{steps-length, residuals-from, step-before, step-average, step-between, step-residual, step-after, Entry, before, average, between, residual, after, entry-is}
 
@@ -79,3 +82,7 @@ sided-step s cs ps h w =
 pub sided-area : (cs : List Channel) (ps : List Place) → Sided cs ps → (k : ℕ) → k < length ps → area (placeOf ps k) ≡ samples (channelOf cs k)
 unfolding samples
 sided-area cs ps w k h = rw (w .wide k h, w .high k h)
+
+pub sided-fit : (cs : List Channel) (ps : List Place) → Sided cs ps → Accepted cs → (k : ℕ) → k < length ps → sidesFit (bare (placeOf ps k)) ≡ true
+unfolding sidesFit
+sided-fit cs ps w ok k h = let l = w .long in rw (w .wide k h, w .high k h) (accepted-sides cs ok k (omega arith))

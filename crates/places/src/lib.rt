@@ -45,7 +45,7 @@ pub fn behind(home: usize, n: usize) -> usize
 }
 
 // The samples of a channel.
-fn area(width: u16, height: u16) -> usize
+fn area(width: u32, height: u32) -> usize
     ensures { λ r. ⌜ r ≡ width * height ⌝ }
 {
     width as usize * height as usize
@@ -74,7 +74,7 @@ fn within(count: usize) -> usize
 }
 
 // The homes of the first `end` channels, one after the other.
-fn lay_first<'a>(end: usize, widths: &'a [u16; 256], heights: &'a [u16; 256], homes: &mut [usize])
+fn lay_first<'a>(end: usize, widths: &'a [u32; 256], heights: &'a [u32; 256], homes: &mut [usize])
     requires { ⌜ (end ≤ maxChannels) × (length (now homes) ≡ maxChannels) ⌝ }
     ensures { λ _. ⌜ now (homes .exit) ≡ Places.startsFrom 0 (Places.areasIn end (now (widths .entry)) (now (heights .entry))) ++ drop end (now (homes .entry)) ⌝ }
 {
@@ -88,8 +88,8 @@ fn lay_first<'a>(end: usize, widths: &'a [u16; 256], heights: &'a [u16; 256], ho
 // The homes of the first `count` channels, one after the other.
 pub fn lay<'a>(
     count: usize,
-    widths: &'a [u16; 256],
-    heights: &'a [u16; 256],
+    widths: &'a [u32; 256],
+    heights: &'a [u32; 256],
     homes: &mut [usize; 256],
 )
     ensures { λ _. ⌜ now (homes .exit) ≡ Places.startsFrom 0 (Places.areasIn count (now (widths .entry)) (now (heights .entry))) ++ drop (min count maxChannels) (now (homes .entry)) ⌝ }
@@ -113,8 +113,8 @@ fn spread(
     count: usize,
     at: usize,
     number: usize,
-    widths: &mut [u16],
-    heights: &mut [u16],
+    widths: &mut [u32],
+    heights: &mut [u32],
     homes: &mut [usize],
     slots: &mut [u8],
 )
@@ -133,7 +133,7 @@ fn spread(
 
 // Entry `k` becomes the average and entry `r` the residual of a horizontal
 // step, but for their slots.
-fn split_along(k: usize, r: usize, widths: &mut [u16], heights: &mut [u16], homes: &mut [usize])
+fn split_along(k: usize, r: usize, widths: &mut [u32], heights: &mut [u32], homes: &mut [usize])
     requires { ⌜ (length (now widths) ≡ maxChannels) × (length (now heights) ≡ maxChannels) × (length (now homes) ≡ maxChannels) × (k < maxChannels) × (r < maxChannels) ⌝ }
     ensures { λ _. ⌜ (now (widths .exit) ≡ Moves.halvedIn k r (now (widths .entry))) × (now (heights .exit) ≡ Moves.copiedIn k r (now (heights .entry))) × (now (homes .exit) ≡ Moves.homeIn k r (halved (getD (now (widths .entry)) k 0) * getD (now (heights .entry)) k 0) (now (homes .entry))) ⌝ }
 {
@@ -147,7 +147,7 @@ fn split_along(k: usize, r: usize, widths: &mut [u16], heights: &mut [u16], home
 }
 
 // The same of a vertical step.
-fn split_across(k: usize, r: usize, widths: &mut [u16], heights: &mut [u16], homes: &mut [usize])
+fn split_across(k: usize, r: usize, widths: &mut [u32], heights: &mut [u32], homes: &mut [usize])
     requires { ⌜ (length (now widths) ≡ maxChannels) × (length (now heights) ≡ maxChannels) × (length (now homes) ≡ maxChannels) × (k < maxChannels) × (r < maxChannels) ⌝ }
     ensures { λ _. ⌜ (now (widths .exit) ≡ Moves.copiedIn k r (now (widths .entry))) × (now (heights .exit) ≡ Moves.halvedIn k r (now (heights .entry))) × (now (homes .exit) ≡ Moves.homeIn k r (getD (now (widths .entry)) k 0 * halved (getD (now (heights .entry)) k 0)) (now (homes .entry))) ⌝ }
 {
@@ -165,8 +165,8 @@ fn split_one(
     horizontal: bool,
     k: usize,
     r: usize,
-    widths: &mut [u16],
-    heights: &mut [u16],
+    widths: &mut [u32],
+    heights: &mut [u32],
     homes: &mut [usize],
     slots: &mut [u8],
 )
@@ -189,8 +189,8 @@ fn split(
     begin: usize,
     at: usize,
     number: usize,
-    widths: &mut [u16],
-    heights: &mut [u16],
+    widths: &mut [u32],
+    heights: &mut [u32],
     homes: &mut [usize],
     slots: &mut [u8],
 )
@@ -207,8 +207,8 @@ fn split(
 pub fn place_step(
     count: usize,
     step: Step,
-    widths: &mut [u16; 256],
-    heights: &mut [u16; 256],
+    widths: &mut [u32; 256],
+    heights: &mut [u32; 256],
     homes: &mut [usize; 256],
     slots: &mut [u8; 256],
 ) -> usize

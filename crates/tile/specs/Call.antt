@@ -42,7 +42,7 @@ across horizontal s = cond horizontal (s .height) (s .width)
 abbrev pub sides : Bool → ℕ → ℕ → Sides
 sides horizontal lines n = record { width = cond horizontal n lines; height = cond horizontal lines n }
 
--- 12. "Sides are at most 65,535."
+-- 12. "Raise a side's limit to 1,048,575, in tile calls too, where question 12 still judges it" (A.8)
 unfoldable pub sidesSmall : Sides → Bool
 sidesSmall s = leb (s .width) maxSide && leb (s .height) maxSide
 

@@ -1,4 +1,4 @@
--- `area` meets its contract: a product of two 16-bit sides fits 64 bits. Assumes nothing.
+-- `area` meets its contract: a product of two 32-bit sides fits 64 bits. Assumes nothing.
 use Prim.Native.Nat.{_≤_}
 use native.Mathlib.Omega.{arith}
 use native.Mathlib.Nat.{mul-le-mul-left}
@@ -8,7 +8,7 @@ use Rattle.places.proofs.area.Tie as tie
 
 mul-result : tie.Need-mul-result
 mul-result c =
-    let h : c .args .height ≤ 65535 = omega arith in
+    let h : c .args .height ≤ 4294967295 = omega arith in
     omega (arith, mul-le-mul-left (c .args .width) h)
 
 returns : tie.Need-returns

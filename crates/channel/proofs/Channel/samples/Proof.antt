@@ -1,4 +1,4 @@
--- `samples` meets its contract: a product of two 16-bit sides fits 64 bits. Assumes nothing.
+-- `samples` meets its contract: a product of two 32-bit sides fits 64 bits. Assumes nothing.
 use mathlib.Core.Path.{refl}
 use Prim.Native.Nat.{_*_, _≤_}
 use native.Mathlib.Omega.{arith}
@@ -17,7 +17,7 @@ cast-result-2 c = search needs
 mul-result : tie.Need-mul-result
 mul-result c =
     let w = c .before .before .args .self .width in
-    let h : c .before .before .args .self .height ≤ 65535 = omega arith in
+    let h : c .before .before .args .self .height ≤ 4294967295 = omega arith in
     omega (arith, mul-le-mul-left w h)
 
 returns : tie.Need-returns

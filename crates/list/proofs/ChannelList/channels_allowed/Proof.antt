@@ -34,8 +34,8 @@ entry-of-requires c κs = search needs
 is-meta-requires : tie.Need-is-meta-requires Inv-loop μ-loop
 is-meta-requires c κs = search needs
 
-has-shifts-allowed-requires : tie.Need-has-shifts-allowed-requires Inv-loop μ-loop
-has-shifts-allowed-requires c κs = search needs
+is-allowed-requires : tie.Need-is-allowed-requires Inv-loop μ-loop
+is-allowed-requires c κs = search needs
 
 -- the turn of the loop in which a channel was found
 abbrev turn : tie.After-entry-of Inv-loop μ-loop → tie.In-loop Inv-loop μ-loop
@@ -47,8 +47,8 @@ returns c =
     let v = b .before .before in
     let t = turn v in
     let q = t .before in
-    allowed-stop (channelAt (q .before .before .args .t1)) (q .loop .k) _ (q .loop .plain) (b .has-shifts-allowed .result) (b .before .is-meta .result) (v .entry-of .result)
-    (t .loop-test .taken) (v .entry-of .ensures) (b .has-shifts-allowed .ensures) (b .before .is-meta .ensures) (c .if1 .taken)
+    allowed-stop (channelAt (q .before .before .args .t1)) (q .loop .k) _ (q .loop .plain) (b .is-allowed .result) (b .before .is-meta .result) (v .entry-of .result)
+    (t .loop-test .taken) (v .entry-of .ensures) (b .is-allowed .ensures) (b .before .is-meta .ensures) (c .if1 .taken)
     ∙ q .loop .inv .1
 
 add-k : tie.Need-add-k Inv-loop μ-loop
@@ -64,8 +64,8 @@ loop-again c =
     let t = turn v in
     let q = t .before in (
       omega arith,
-      allowed-next (channelAt (q .before .before .args .t1)) (q .loop .k) _ (q .loop .plain) (b .has-shifts-allowed .result) (b .before .is-meta .result) (v .entry-of .result)
-          (t .loop-test .taken) (v .entry-of .ensures) (b .has-shifts-allowed .ensures) (b .before .is-meta .ensures) (c .if1 .left)
+      allowed-next (channelAt (q .before .before .args .t1)) (q .loop .k) _ (q .loop .plain) (b .is-allowed .result) (b .before .is-meta .result) (v .entry-of .result)
+          (t .loop-test .taken) (v .entry-of .ensures) (b .is-allowed .ensures) (b .before .is-meta .ensures) (c .if1 .left)
           ∙ q .loop .inv .1,
     )
 
@@ -85,7 +85,7 @@ channels-allowed-spec =
     loop-holds
     entry-of-requires
     is-meta-requires
-    has-shifts-allowed-requires
+    is-allowed-requires
     returns
     add-k
     loop-less

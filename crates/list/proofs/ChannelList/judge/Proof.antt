@@ -1,9 +1,9 @@
 -- `judge` meets its contract: each return has the answers to the questions before it. Assumes nothing.
 use borrow.Author.Needs.{needs}
-use borrow.Author.Tests.{le-leb, lt-leb, not-true, not-false}
-use Rattle.numbers.specs.Numbers.{maxSamples}
-use Rattle.list.specs.Questions.{countAllowed, totalAllowed, judgeList}
+use borrow.Author.Tests.{not-true, not-false}
+use Rattle.list.specs.Questions.{countAllowed, judgeList}
 use Rattle.list.proofs.Asking.{no, yes}
+use Rattle.list.proofs.Totals.{counted-over, counted-within}
 use Rattle.list.proofs.ChannelList.judge.Statement.{statement}
 use Rattle.list.proofs.ChannelList.judge.Tie as tie
 
@@ -27,25 +27,23 @@ total-requires : tie.Need-total-requires
 total-requires c κs = search needs
 
 returns-3 : tie.Need-returns-3
-unfolding judgeList countAllowed totalAllowed
+unfolding judgeList countAllowed
 returns-3 c =
     let b = c .before .before .before in
     rw (
       not-false (countAllowed (b .before .before .args .self .count)) (b .before .if1 .left),
       yes (b .channels-allowed .ensures) (c .before .before .if2 .left),
-      ← (c .before .total .ensures),
-      lt-leb (c .before .total .result) maxSamples (c .if3 .taken),
+      counted-over _ (c .before .total .result) (c .before .total .ensures) (c .if3 .taken),
     )
 
 returns-4 : tie.Need-returns-4
-unfolding judgeList countAllowed totalAllowed
+unfolding judgeList countAllowed
 returns-4 c =
     let b = c .before .before .before in
     rw (
       not-false (countAllowed (b .before .before .args .self .count)) (b .before .if1 .left),
       yes (b .channels-allowed .ensures) (c .before .before .if2 .left),
-      ← (c .before .total .ensures),
-      le-leb (c .before .total .result) maxSamples (c .if3 .left),
+      counted-within _ (c .before .total .result) (c .before .total .ensures) (c .if3 .left),
     )
 
 pub judge-spec : {M : Type 1} → statement M
