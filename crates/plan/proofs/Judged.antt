@@ -7,10 +7,11 @@ use lib.ListN.{length}
 use Rattle.list.specs.declared.ChannelList.{ChannelList}
 use Rattle.list.specs.declared.Stepped.{Stepped}
 use Rattle.list.specs.Lists as Lists
-use Rattle.list.specs.Lists.{maxChannels, maxSteps, channels}
-use Rattle.list.specs.Questions.{judgeList}
-use Rattle.list.proofs.Acceptance.{count-inside}
+use Rattle.list.specs.Lists.{maxChannels, maxSteps, channels, total}
+use Rattle.list.specs.Questions.{countedTotal, judgeList}
+use Rattle.list.proofs.Acceptance.{count-inside, list-accepted}
 use Rattle.list.proofs.Packed.{channels-packed}
+use Rattle.list.proofs.Totals.{counted-exact}
 use Rattle.plan.specs.declared.Planned.{Planned}
 use Rattle.plan.specs.declared.Steps.{Steps}
 use Rattle.plan.specs.Steps.{steps}
@@ -35,6 +36,10 @@ module _ (l : ChannelList) (s : Steps) where
 
     pub judged-list : judgeList l ≡ 0
     judged-list = form .0
+
+    -- its samples are counted to the last
+    pub judged-total : countedTotal (channels l) ≡ total (channels l)
+    judged-total = counted-exact (channels l) (list-accepted l judged-list .samples)
 
     pub judged-counts : (l .count ≤ maxChannels) × (s .count ≤ maxSteps)
     judged-counts = (count-inside l judged-list .1, form .1)

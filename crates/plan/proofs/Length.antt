@@ -9,9 +9,11 @@ use native.Mathlib.Omega.{arith}
 use lib.Dec.{eqb, leb, ltb}
 use lib.ListN.{length, length-append}
 use Rattle.channel.specs.declared.Channel.{Channel}
+use Rattle.channel.specs.Channel.{sidesFit}
+use Rattle.channel.proofs.Sides.{fit-sides}
 use Rattle.list.specs.declared.Step.{Step}
 use Rattle.list.specs.Lists.{halved, maxSteps}
-use Rattle.plan.specs.Default.{stoppingSide, firstOther, when, step, chroma, rounds, allChannels, defaultSteps}
+use Rattle.plan.specs.Default.{firstOther, when, step, chroma, rounds, allChannels, defaultSteps}
 use Rattle.plan.proofs.Turns.{halvings, rounds-length}
 
 pub when-length : (t : Bool) (s : Step) → length (when t s) ≤ 1
@@ -53,11 +55,8 @@ pub default-length : (stop a b : ℕ) (cs : List Channel) → firstOther cs .wid
 unfolding defaultSteps
 default-length stop a b cs p q = rw length-append (add-le-add (chroma-length _ _ _ _ _) (allChannels-length stop _ _ _ _ a b p q))
 
--- at any stopping side, and at document 01's
-pub default-fits : (stop : ℕ) (cs : List Channel) → 1 ≤ stop → firstOther cs .width < 2 ^ 16 → firstOther cs .height < 2 ^ 16
-    → length (defaultSteps stop cs) ≤ maxSteps
-default-fits stop cs one w h = omega (arith, default-length stop 16 16 cs (omega arith) (omega arith))
-
-pub default-at-most : (cs : List Channel) → firstOther cs .width < 2 ^ 16 → firstOther cs .height < 2 ^ 16
-    → length (defaultSteps stoppingSide cs) ≤ 28
-default-at-most cs w h = default-length stoppingSide 13 13 cs (omega arith) (omega arith)
+-- at any stopping side, since a side is below 2 ^ 20
+pub default-fits : (stop : ℕ) (cs : List Channel) → 1 ≤ stop → sidesFit (firstOther cs) ≡ true → length (defaultSteps stop cs) ≤ maxSteps
+default-fits stop cs one fit =
+    let f = fit-sides (firstOther cs) fit in
+    omega (arith, default-length stop 20 20 cs (omega arith) (omega arith))

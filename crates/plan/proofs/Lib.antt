@@ -14,3 +14,4 @@ pub mod Answers
 pub mod Judged
 pub mod AsStandard
 pub mod DefaultStandard
+pub mod Longest

@@ -3,18 +3,21 @@
 use mathlib.Core.Bool.{Bool, true, false, cond, _&&_}
 use mathlib.Core.Path.{_≡_, refl, sym, ap, _∙_}
 use mathlib.Core.List.{List, [], _∷_, _++_}
-use Prim.Native.Nat.{ℕ, _+_, _-_, _^_, _<_, _≤_}
+use Prim.Native.Nat.{ℕ, _+_, _-_, _<_, _≤_}
 use native.Mathlib.Omega.{arith}
 use lib.Dec.{eqb, leb, ltb}
 use lib.ListN.{length}
 use borrow.Author.Tests.{ltb-true}
 use Rattle.channel.specs.declared.Channel.{Channel}
+use Rattle.channel.specs.Channel.{sidesFit}
 use Rattle.list.specs.declared.ChannelList.{ChannelList}
 use Rattle.list.specs.declared.Step.{Step}
 use Rattle.list.specs.Lists.{maxChannels, maxSteps, channelAt, channels, halved}
+use Rattle.list.specs.Tables.{all}
 use Rattle.list.specs.Questions.{channelOf}
 use Rattle.list.proofs.Channels.{channels-at}
-use Rattle.plan.specs.Default.{metaCount, firstOther, when, step, chroma, rounds, allChannels, defaultSteps}
+use Rattle.list.proofs.Maps.{all-at}
+use Rattle.plan.specs.Default.{metaCount, when, step, chroma, rounds, allChannels, defaultSteps}
 use Rattle.plan.proofs.Counts.{counted-all}
 use Rattle.plan.proofs.Turns.{rounds-enough}
 use Rattle.plan.proofs.Length.{when-length, default-fits}
@@ -92,7 +95,7 @@ pub record Parted (stop : ℕ) (l : ChannelList) (m : ℕ) (first second : Chann
   pub so : firstPart l m first second ++ secondPart stop l m first ≡ defaultSteps stop (channels l)
   pub room : length (firstPart l m first second ++ secondPart stop l m first) ≤ maxSteps
 
-module _ (l : ChannelList) (inside : l .count ≤ maxChannels) (m : ℕ) (first second : Channel) (em : m ≡ metaCount (channels l)) (some : m < l .count) (e₁ : first ≡ channelAt l m) (e₂ : second ≡ channelAt l (m + 1)) where
+module _ (l : ChannelList) (inside : l .count ≤ maxChannels) (sides : all sidesFit (channels l) ≡ true) (m : ℕ) (first second : Channel) (em : m ≡ metaCount (channels l)) (some : m < l .count) (e₁ : first ≡ channelAt l m) (e₂ : second ≡ channelAt l (m + 1)) where
   parts-so : (stop : ℕ) → firstPart l m first second ++ secondPart stop l m first ≡ defaultSteps stop (channels l)
   unfolding defaultSteps
   parts-so stop =
@@ -104,9 +107,9 @@ module _ (l : ChannelList) (inside : l .count ≤ maxChannels) (m : ℕ) (first 
       (ap (λ (ss : List Step). ss ++ allChannels stop m n w h)
       (chroma-second m n w h second (channelOf (channels l) (m + 1)) (λ many. e₂ ∙ channels-at l (m + 1) (omega arith))))
 
-  -- sides are 16 bits wide, so the plan has room
-  pub parted : (stop : ℕ) → 1 ≤ stop → first .width < 2 ^ 16 → first .height < 2 ^ 16 → Parted stop l m first second
-  parted stop one w h =
+  -- no side is above the limit, so the plan has room
+  pub parted : (stop : ℕ) → 1 ≤ stop → Parted stop l m first second
+  parted stop one =
       let long = counted-all l inside in
-      let same : firstOther (channels l) ≡ first = rw (← em) (sym (channels-at l m (omega arith)) ∙ sym e₁) in
-      record { so = parts-so stop; room = rw (parts-so stop) (default-fits stop (channels l) one (rw same w) (rw same h)) }
+      let fit = all-at sidesFit (channels l) (metaCount (channels l)) _ sides (omega arith) in
+      record { so = parts-so stop; room = rw (parts-so stop) (default-fits stop (channels l) one fit) }

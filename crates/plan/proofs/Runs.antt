@@ -1,18 +1,16 @@
 -- Steps one after the other (`judgeSteps` and `steppedAll` of specs/Plans.antt): the steps of two plans joined, the sample total, which stays, and an
 -- accepted plan, which leaves an accepted list, and one without meta channels where there was none. Assumes nothing.
-use mathlib.Core.Bool.{Bool, true, false, and-eq-true-iff}
+use mathlib.Core.Bool.{Bool, true, false}
 use mathlib.Core.Path.{_≡_, refl, _∙_}
 use mathlib.Core.List.{List, [], _∷_, _++_}
 use lib.Dec.{eqb}
 use Rattle.channel.specs.declared.Channel.{Channel}
-use Rattle.channel.specs.Channel.{shiftsAllowed}
 use Rattle.list.specs.declared.Step.{Step}
 use Rattle.list.specs.Lists.{stepped, total}
-use Rattle.list.specs.Tables.{all}
-use Rattle.list.specs.Questions.{ask, noMeta, metaFirst, channelsAllowed, judgeStep}
+use Rattle.list.specs.Questions.{ask, noMeta, judgeStep}
 use Rattle.list.specs.Accepted.{Accepted}
 pub use Rattle.list.proofs.Asking.{none-refused}
-use Rattle.list.proofs.Acceptance.{step-accepted}
+use Rattle.list.proofs.Acceptance.{allowed-both, step-accepted}
 use Rattle.list.proofs.Totals.{stepped-total}
 use Rattle.list.proofs.Kept.{stepped-allowed, stepped-plain}
 use Rattle.plan.specs.Plans.{judgeSteps, steppedAll}
@@ -47,10 +45,9 @@ plan-accepted (s ∷ ss) cs ok h =
     plan-accepted ss (stepped s cs) (stepped-allowed s cs (step-accepted s cs (a .0)) ok) (a .1)
 
 pub plan-plain : (ss : List Step) (cs : List Channel) → Accepted cs → judgeSteps ss cs ≡ 0 → noMeta cs ≡ true → noMeta (steppedAll ss cs) ≡ true
-unfolding channelsAllowed
 plan-plain [] cs ok h n = n
 plan-plain (s ∷ ss) cs ok h n =
     let a = none-refused (judgeStep s cs) (judgeSteps ss (stepped s cs)) h in
     let t = step-accepted s cs (a .0) in
-    let shifts = and-eq-true-iff (all shiftsAllowed cs) (metaFirst cs) .0 (ok .allowed) .0 in
+    let shifts = allowed-both cs (ok .allowed) .0 in
     plan-plain ss (stepped s cs) (stepped-allowed s cs t ok) (a .1) (stepped-plain s cs t shifts n)

@@ -13,7 +13,7 @@ use Rattle.list.specs.declared.Step.{Step}
 use Rattle.list.specs.Lists.{halved}
 use Rattle.plan.specs.Default.{stoppingSide, when, step, lowered, rounds}
 
-by-test {ℓ} : {A : Type ℓ} (t : Bool) → (t ≡ true → A) → (t ≡ false → A) → A
+pub by-test {ℓ} : {A : Type ℓ} (t : Bool) → (t ≡ true → A) → (t ≡ false → A) → A
 by-test true f g = f refl
 by-test false f g = g refl
 
@@ -63,7 +63,7 @@ pub record Lowered (stop side a : ℕ) (s : Step) : Type 0 where
   pub under : lowered stop side ≤ stop * 2 ^ left
   pub paid : length (when (ltb stop side) s) + left ≤ a
 
-doubled : (stop a : ℕ) → stop * 2 ^ suc a ≡ 2 * (stop * 2 ^ a)
+pub doubled : (stop a : ℕ) → stop * 2 ^ suc a ≡ 2 * (stop * 2 ^ a)
 doubled stop a = rw pow-succ' (mul-left-comm stop 2 (2 ^ a))
 
 pub halvings : (stop side a : ℕ) (s : Step) → side ≤ stop * 2 ^ a → Lowered stop side a s

@@ -6,3 +6,4 @@ pub mod Coarse
 pub mod Counted
 pub mod Standard
 pub mod StandardDefault
+pub mod Longest

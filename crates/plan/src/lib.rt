@@ -2,9 +2,11 @@
 // `meta_apply_transforms`): the steps in flat arrays, the default plan, the run
 // of a plan over a list, and the coarse count. Total.
 ghost use mathlib.Core.Path.{_≡_};
+ghost use mathlib.Core.Bool.{true};
 ghost use mathlib.Core.List.{[]};
 ghost use Prim.Native.Nat.{_+_, _<_, _≤_};
 ghost use lib.ListN.{length};
+ghost use Rattle.channel.specs.Channel.{sidesFit};
 ghost use Rattle.list.specs.Tables.{all};
 ghost use Rattle.list.specs.Lists.{maxChannels, maxSteps, channels, packed};
 ghost use Rattle.list.specs.Questions.{judgeList};
@@ -54,7 +56,7 @@ pub fn flags_of(step: Step) -> u8
 impl Steps {
     // The side above which the default plan goes on, and up to which a channel
     // that is not meta is coarse (the Rust's `MAX_FIRST_PREVIEW_SIZE`).
-    pub const STOPPING_SIDE: u16 = 8;
+    pub const STOPPING_SIDE: u32 = 8;
 
     // The flags of a step that is horizontal and in place.
     pub const ALL_FLAGS: u8 = 3;
@@ -115,7 +117,7 @@ impl Steps {
     }
 }
 
-fn lowered(side: u16) -> u16
+fn lowered(side: u32) -> u32
     ensures { λ r. ⌜ r ≡ Default.lowered Default.stoppingSide side ⌝ }
 {
     if Steps::STOPPING_SIDE < side {
@@ -127,7 +129,7 @@ fn lowered(side: u16) -> u16
 
 // The turns of the default plan after `plan`: in-place steps on all `n`
 // channels from `m` on while a side of the first is above the stopping side.
-fn rounds(plan: Steps, m: u16, n: u16, w: u16, h: u16) -> Steps
+fn rounds(plan: Steps, m: u16, n: u16, w: u32, h: u32) -> Steps
     requires { ⌜ plan .count + length (Default.rounds (w + h) Default.stoppingSide m n w h) ≤ maxSteps ⌝ }
     ensures { λ r. ⌜ r ≡ appended plan (Default.rounds (w + h) Default.stoppingSide m n w h) ⌝ }
 {
@@ -158,7 +160,7 @@ fn rounds(plan: Steps, m: u16, n: u16, w: u16, h: u16) -> Steps
 
 // The in-place steps of the default plan after `plan`: vertical first on tall
 // pictures, then the turns.
-fn all_channels(plan: Steps, m: u16, n: u16, w: u16, h: u16) -> Steps
+fn all_channels(plan: Steps, m: u16, n: u16, w: u32, h: u32) -> Steps
     requires { ⌜ plan .count + length (Default.allChannels Default.stoppingSide m n w h) ≤ maxSteps ⌝ }
     ensures { λ r. ⌜ r ≡ appended plan (Default.allChannels Default.stoppingSide m n w h) ⌝ }
 {
@@ -176,7 +178,7 @@ fn all_channels(plan: Steps, m: u16, n: u16, w: u16, h: u16) -> Steps
 
 // The chroma steps of the default plan after `plan`: on the second and third of
 // `n` channels from `m` on, where the second is `w` by `h` as the first is.
-fn chroma(plan: Steps, m: u16, n: u16, w: u16, h: u16, second: Channel) -> Steps
+fn chroma(plan: Steps, m: u16, n: u16, w: u32, h: u32, second: Channel) -> Steps
     requires { ⌜ (plan .count + 2 ≤ maxSteps) × (m < maxChannels) ⌝ }
     ensures { λ r. ⌜ r ≡ appended plan (Default.chroma m n w h second) ⌝ }
 {
@@ -200,7 +202,7 @@ fn chroma(plan: Steps, m: u16, n: u16, w: u16, h: u16, second: Channel) -> Steps
 
 // Whether a channel is meta or has no side above `stop` (the Rust's
 // `is_meta_or_small`).
-fn is_coarse(channel: Channel, stop: u16) -> bool
+fn is_coarse(channel: Channel, stop: u32) -> bool
     ensures { λ r. ⌜ r ≡ isCoarse stop channel ⌝ }
 {
     channel.is_meta() | ((channel.width <= stop) & (channel.height <= stop))
@@ -243,9 +245,10 @@ pub fn coarse_count(list: ChannelList) -> usize
     leading(list, Counted::Coarse)
 }
 
-// The default plan of a list with a channel that is not meta.
+// The default plan of a list with a channel that is not meta and no side above
+// the limit.
 fn default_steps(list: ChannelList) -> Steps
-    requires { ⌜ (list .count ≤ maxChannels) × (Default.metaCount (channels list) < list .count) ⌝ }
+    requires { ⌜ (list .count ≤ maxChannels) × (Default.metaCount (channels list) < list .count) × (all sidesFit (channels list) ≡ true) ⌝ }
     ensures { λ r. ⌜ r ≡ Spec.packed (Default.defaultSteps Default.stoppingSide (channels list)) ⌝ }
     ensures room { λ r. ⌜ r .count ≤ maxSteps ⌝ }
 {
@@ -261,7 +264,7 @@ fn default_steps(list: ChannelList) -> Steps
     all_channels(steps, m, n, w, h)
 }
 
-// The default plan of a list that passes questions 3 to 6.
+// The default plan of a list, by questions 3 to 6.
 pub fn default_squeeze(list: ChannelList) -> Planned
     ensures { λ r. ⌜ r ≡ Plans.planned list ⌝ }
     ensures room { λ r. ⌜ r .steps .count ≤ maxSteps ⌝ }
@@ -338,8 +341,8 @@ fn tidied(list: ChannelList) -> ChannelList
     ensures { λ r. ⌜ r ≡ packed (channels list) ⌝ }
 {
     let count = list.count;
-    let mut widths = [0u16; 256];
-    let mut heights = [0u16; 256];
+    let mut widths = [0u32; 256];
+    let mut heights = [0u32; 256];
     let mut hshifts = [0u8; 256];
     let mut vshifts = [0u8; 256];
     for k in 0..count {

@@ -3,7 +3,7 @@ use mathlib.Core.Path.{sym, _∙_}
 use mathlib.Core.List.{[]}
 use native.Mathlib.Omega.{arith}
 use borrow.Author.Needs.{needs}
-use Rattle.list.proofs.Acceptance.{count-inside}
+use Rattle.list.proofs.Acceptance.{count-inside, list-accepted, allowed-both}
 use Rattle.plan.proofs.Packed.{packed-count}
 use Rattle.plan.proofs.Answers.{planned-refused, planned-none, planned-some}
 use Rattle.plan.proofs.default_squeeze.Statement.{statement}
@@ -32,8 +32,11 @@ returns-2 c =
 
 default-steps-requires : tie.Need-default-steps-requires
 default-steps-requires c κs =
-    let q = c .before .before in
-    (count-inside _ (sym (q .before .before .judge .ensures) ∙ q .before .if1 .left) .1, omega (arith, q .meta-count .ensures))
+    let q = c .before .before in (
+      count-inside _ (sym (q .before .before .judge .ensures) ∙ q .before .if1 .left) .1,
+      omega (arith, q .meta-count .ensures),
+      allowed-both _ (list-accepted _ (sym (q .before .before .judge .ensures) ∙ q .before .if1 .left) .allowed) .1,
+    )
 
 returns-3 : tie.Need-returns-3
 returns-3 c =

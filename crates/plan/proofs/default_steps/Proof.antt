@@ -27,8 +27,8 @@ parts : (c : tie.After-entry-of2)
 parts c =
     let f = first c .entry-of in
     let m = metas (first c) in
-    parted (m .before .args .t1) (m .before .pre .0) (m .meta-count .result) (f .result) (c .entry-of2 .result) (m .meta-count .ensures) (search needs) (f .ensures)
-    (c .entry-of2 .ensures) stoppingSide stops (f .ok .1 .1 .0 .1) (f .ok .1 .1 .1 .0 .1)
+    parted (m .before .args .t1) (m .before .pre .0) (m .before .pre .2) (m .meta-count .result) (f .result) (c .entry-of2 .result) (m .meta-count .ensures) (search needs) (f .ensures)
+    (c .entry-of2 .ensures) stoppingSide stops
 
 meta-count-requires : tie.Need-meta-count-requires
 meta-count-requires c κs = search needs
