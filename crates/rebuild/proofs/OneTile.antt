@@ -4,13 +4,15 @@ use mathlib.Core.Path.{_≡_, refl, sym, _∙_}
 use mathlib.Core.Bool.{Bool, true, false, not}
 use mathlib.Core.List.{List, []}
 use mathlib.Core.Logic.{inl}
-use Prim.Native.Nat.{_+_, _*_, _<_, _≤_}
+use Prim.Native.Nat.{ℕ, _+_, _*_, _≤_}
 use native.Mathlib.Omega.{arith}
 use mir.Val.{boolByte}
 use lib.Dec.{eqb}
 use lib.IntN.{ℤ}
+use Rattle.numbers.specs.Numbers.{maxSide}
 use Rattle.channel.specs.declared.Channel.{Channel}
 use Rattle.channel.specs.Channel.{samples}
+use Rattle.channel.proofs.Sides.{fit-sides}
 use Rattle.line.specs.Forward.{averageCount, residualCount}
 use Rattle.tile.specs.declared.Sides.{Sides}
 use Rattle.tile.specs.Call.{sides, call, after}
@@ -24,22 +26,23 @@ direction : (h : Bool) → not (eqb (boolByte h) 0) ≡ h
 direction true = refl
 direction false = refl
 
-module _ (h : Bool) (c : Channel) (w : c .width < 65536) (t : c .height < 65536) where
-  -- sides of 16 bits
-  pub lines-small : linesOf h c ≤ 65535
+-- a channel without a side above n
+module _ (h : Bool) (c : Channel) (n : ℕ) (w : c .width ≤ n) (t : c .height ≤ n) where
+  pub lines-small : linesOf h c ≤ n
   lines-small = by h
     where
-      by : (h : Bool) → linesOf h c ≤ 65535
+      by : (h : Bool) → linesOf h c ≤ n
       by true = omega arith
       by false = omega arith
 
-  pub size-small : sizeOf h c ≤ 65535
+  pub size-small : sizeOf h c ≤ n
   size-small = by h
     where
-      by : (h : Bool) → sizeOf h c ≤ 65535
+      by : (h : Bool) → sizeOf h c ≤ n
       by true = omega arith
       by false = omega arith
 
+module _ (h : Bool) (c : Channel) where
   -- the sides of the channel are its lines by averages and residuals
   channel-sides : record { width = c .width; height = c .height } ≡ sides h (linesOf h c) (averageCount (sizeOf h c) + residualCount (sizeOf h c))
   channel-sides = rw (all-along (sizeOf h c)) (by h)
@@ -51,8 +54,9 @@ module _ (h : Bool) (c : Channel) (w : c .width < 65536) (t : c .height < 65536)
   module _ (avg res out : List ℤ) (f : ChannelFits h c avg res out) where
     arguments : Arguments (linesOf h c) (averageCount (sizeOf h c)) (residualCount (sizeOf h c)) avg res [] [] out
     arguments =
-        let l = lines-small in
-        let z = size-small in
+        let s = fit-sides c (f .sides) in
+        let l = lines-small h c maxSide (s .0) (s .1) in
+        let z = size-small h c maxSide (s .0) (s .1) in
         let whole = all-along (sizeOf h c) in
         let area : linesOf h c * (averageCount (sizeOf h c) + residualCount (sizeOf h c)) ≡ samples c = rw whole (sym (samples-by h c)) in
         record {

@@ -10,12 +10,13 @@ use lib.IntN.{ℤ}
 use lib.ListN.{length}
 use Rattle.list.specs.declared.ChannelList.{ChannelList}
 use Rattle.list.specs.Lists.{maxSteps, channels, total}
+use Rattle.list.specs.Questions.{countedTotal}
 use Rattle.list.proofs.Acceptance.{list-accepted}
 use Rattle.plan.specs.declared.Planned.{Planned}
 use Rattle.plan.specs.declared.Steps.{Steps}
 use Rattle.plan.specs.Steps as S
 use Rattle.plan.specs.Plans.{meant, meantSteps, judgePlan}
-use Rattle.plan.proofs.Judged.{judged-list, judged-counts, meant-judged, meant-is}
+use Rattle.plan.proofs.Judged.{judged-list, judged-total, judged-counts, meant-judged, meant-is}
 use Rattle.buffer.specs.Buffer.{zeros}
 use Rattle.buffer.proofs.Overwritten.{zeros-same}
 use Rattle.runs.specs.Runs.{rebuilt}
@@ -54,7 +55,11 @@ module _ (l : ChannelList) (s : Steps) (pyramid picture work : List ℤ) where
         let e = ne-eqb a 0 h in
         (rw (← ea, e), rw (← ea, e, e), rw (← ea, e, e))
 
-    module _ (ok : a ≡ 0) (all : ℕ) (et : all ≡ total (channels l)) where
+    module _ (ok : a ≡ 0) (all : ℕ) (ec : all ≡ countedTotal (channels l)) where
+      -- the list is accepted, so its samples are counted to the last
+      et : all ≡ total (channels l)
+      et = ec ∙ judged-total l s (sym ea ∙ ok)
+
       fitting : (b : Bool) → eqb (length pyramid) all && (eqb (length picture) all && eqb (length work) all) ≡ b → slicesFit l pyramid picture work ≡ b
       unfolding slicesFit
       fitting b e = rw et at e

@@ -152,6 +152,7 @@ module _ (s : Step) (qs : List Place) (starts : List ℕ) (made : List Bool) (py
           residual-in = rw (residual-bare (s .horizontal) (placeOf qs (s .begin + i))) lr;
           home-in = rw (bare-samples (placeOf qs (s .begin + i))) (f .laid .inside (s .begin + i) (omega arith));
           few = f .few;
+          sides = f .sides (s .begin + i) (omega arith);
           beside-long = t .picture-long;
           out-long = t .work-long;
         })

@@ -22,7 +22,7 @@ use Rattle.line.proofs.Lines.{lt-or-ge}
 use Rattle.places.specs.Places.{Place, area, odd, stepPlaces, residualsAt, root, placeOf, bare}
 use Rattle.places.specs.Laid.{part}
 use Rattle.places.proofs.Steps.{steps-length, step-before, step-between, step-after, root-average, residuals-from}
-use Rattle.places.proofs.Sided.{sided-area}
+use Rattle.places.proofs.Sided.{sided-area, sided-fit}
 use Rattle.plan.specs.declared.Steps.{Steps}
 use Rattle.plan.specs.Steps.{stepAt}
 use Rattle.runs.specs.Parts.{parts}
@@ -31,7 +31,7 @@ use Rattle.runs.proofs.Shapes.{Shaped, parts-joined, joined-length}
 use Rattle.rebuild.specs.Run.{sliceOf, lyingIn, sourceAt, held, RangeFits, TakenBack, listAt, placesAt, samplesAt, RunFits, Back}
 use Rattle.rebuild.proofs.Lent.{source-length, slice-length}
 use Rattle.rebuild.proofs.Backs.{shaped-by, back-count, back-before, back-range, back-behind}
-use Rattle.rebuild.proofs.Firsts.{list-more, places-more, step-judged, step-ok, list-total, total-few, places-sided, places-laid, step-inside}
+use Rattle.rebuild.proofs.Firsts.{list-more, places-more, step-judged, step-ok, list-ok, list-total, total-few, places-sided, places-laid, step-inside}
 
 pub parts-count : (cs : List Channel) (xs : List ℤ) → length (parts cs xs) ≡ length cs
 parts-count [] xs = refl
@@ -93,13 +93,15 @@ module _ (l : ChannelList) (s : Steps) (pyramid : List ℤ) (f : RunFits l s pyr
 
   range-fits : RangeFits st qs starts made pyramid picture work
   range-fits =
-      let n = places-sided l s pyramid f m (omega arith) .long in
+      let sd = places-sided l s pyramid f m (omega arith) in
+      let n = sd .long in
       let r = step-ok l s pyramid f m h .room in
       record {
         inside = in-range;
         room = omega arith;
         laid = places-laid l s pyramid f m (omega arith);
         few = total-few l s pyramid f;
+        sides = sided-fit cs qs sd (list-ok l s pyramid f m h);
         starts-in = starts-in;
         at-home = at-home;
         starts-long = w .starts-long;

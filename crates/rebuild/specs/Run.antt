@@ -9,7 +9,7 @@ use lib.IntN.{ℤ}
 use lib.ListN.{length, getD, take}
 use Rattle.numbers.specs.Numbers.{maxSamples}
 use Rattle.channel.specs.declared.Channel.{Channel}
-use Rattle.channel.specs.Channel.{samples}
+use Rattle.channel.specs.Channel.{sidesFit, samples}
 use Rattle.list.specs.declared.Step.{Step}
 use Rattle.list.specs.declared.ChannelList.{ChannelList}
 use Rattle.list.specs.Tables.{table, map}
@@ -24,12 +24,13 @@ use Rattle.runs.specs.Parts.{parts}
 use Rattle.runs.specs.Runs.{channelBack, rebuilt}
 use Rattle.rebuild.specs.declared.Source.{Source}
 
--- a channel's average, residual and output, each with its samples
+-- a channel's average, residual and output, each with its samples; no side is above the limit
 pub record ChannelFits (horizontal : Bool) (c : Channel) (avg res out : List ℤ) : Type 0 where
   pub avg-long : length avg ≡ samples (average horizontal c)
   pub res-long : length res ≡ samples (residual horizontal c)
   pub out-long : length out ≡ samples c
   pub few : samples c ≤ maxSamples
+  pub sides : sidesFit c ≡ true
 
 -- ---- two slices of homes: the work slice for what an odd number of steps have made, the picture for the rest
 abbrev pub sliceOf : Bool → List ℤ → List ℤ → List ℤ
@@ -56,6 +57,7 @@ pub record PutFits (horizontal : Bool) (c : Channel) (avg res : Source) (home : 
   pub residual-in : res .start + samples (residual horizontal c) ≤ length pyramid
   pub home-in : home + samples c ≤ length pyramid
   pub few : length pyramid ≤ maxSamples
+  pub sides : sidesFit c ≡ true
   pub beside-long : length beside ≡ length pyramid
   pub out-long : length out ≡ length pyramid
 
@@ -68,6 +70,7 @@ pub record RangeFits (s : Step) (qs : List Place) (starts : List ℕ) (made : Li
   pub room : length qs + s .number ≤ maxChannels
   pub laid : Laid (length pyramid) qs
   pub few : length pyramid ≤ maxSamples
+  pub sides : (k : ℕ) → k < length qs → sidesFit (bare (placeOf qs k)) ≡ true
   pub starts-in : (j : ℕ) → j < length qs + s .number → getD starts j 0 + area (placeOf (stepPlaces s qs) j) ≤ length pyramid
   pub at-home : (j : ℕ) → j < length qs + s .number → getD made j false ≡ true → getD starts j 0 ≡ placeOf (stepPlaces s qs) j .home
   pub starts-long : length starts ≡ maxChannels

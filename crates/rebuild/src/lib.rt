@@ -188,8 +188,8 @@ fn make_channel(
 fn make_range(
     count: usize,
     step: Step,
-    widths: &[u16; 256],
-    heights: &[u16; 256],
+    widths: &[u32; 256],
+    heights: &[u32; 256],
     homes: &[usize; 256],
     slots: &[u8; 256],
     starts: &[usize],
@@ -256,8 +256,8 @@ fn place_steps(
     first: usize,
     steps: Steps,
     n: usize,
-    widths: &mut [u16; 256],
-    heights: &mut [u16; 256],
+    widths: &mut [u32; 256],
+    heights: &mut [u32; 256],
     homes: &mut [usize; 256],
     slots: &mut [u8; 256],
 ) -> usize
@@ -276,8 +276,8 @@ fn place_steps(
 fn take_back(
     count: usize,
     step: Step,
-    widths: &[u16; 256],
-    heights: &[u16; 256],
+    widths: &[u32; 256],
+    heights: &[u32; 256],
     homes: &[usize; 256],
     slots: &[u8; 256],
     starts: &mut [usize],

@@ -1,29 +1,25 @@
 -- What questions 4 and 13 tell of the numbers that they let through: a channel that is not meta has shifts up to 30, and a group dimension is at most 1,024.
 -- Assumes nothing.
-use mathlib.Core.Bool.{Bool, true, false, _&&_, _||_}
+use mathlib.Core.Bool.{Bool, true, false, _||_, and-eq-true-iff}
 use mathlib.Core.Path.{_≡_, refl}
 use mathlib.Core.Logic.{_⊎_, inl, inr, ⊎-elim}
 use Prim.Native.Nat.{ℕ, _≤_}
 use native.Mathlib.Omega.{arith}
 use lib.Dec.{eqb}
-use borrow.Author.Tests.{eqb-true, leb-true}
+use borrow.Author.Tests.{eqb-true}
 use Rattle.channel.specs.declared.Channel.{Channel}
 use Rattle.channel.specs.Channel as Spec
+use Rattle.channel.proofs.Shifts.{plain-shifts}
 use Rattle.rect.specs.Rect.{groupAllowed}
 use Rattle.rect.specs.Parts.{maxGroup}
-
-both : (p q : Bool) → p && q ≡ true → (p ≡ true) × (q ≡ true)
-both true q e = (refl, e)
-both false q e = (e, (cc))
 
 one : (p q : Bool) → p || q ≡ true → (p ≡ true) ⊎ (q ≡ true)
 one true q e = inl refl
 one false q e = inr e
 
-pub shifts-small : (c : Channel) → Spec.isMeta c ≡ false → Spec.shiftsAllowed c ≡ true → (c .hshift ≤ Spec.maxShift) × (c .vshift ≤ Spec.maxShift)
-unfolding Spec.shiftsAllowed
-shifts-small c m e =
-    let b = both _ _ (rw m at e) in (leb-true (c .hshift) Spec.maxShift (b .0), leb-true (c .vshift) Spec.maxShift (b .1))
+pub shifts-small : (c : Channel) → Spec.isMeta c ≡ false → Spec.isAllowed c ≡ true → (c .hshift ≤ Spec.maxShift) × (c .vshift ≤ Spec.maxShift)
+unfolding Spec.isAllowed
+shifts-small c m e = plain-shifts c (and-eq-true-iff (Spec.shiftsAllowed c) (Spec.sidesFit c) .0 e .0) m
 
 pub group-small : (group : ℕ) → groupAllowed group ≡ true → group ≤ maxGroup
 unfolding groupAllowed

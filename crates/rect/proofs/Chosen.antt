@@ -6,7 +6,7 @@ use Prim.Native.Nat.{ℕ, zero, suc, _+_, _*_, _<_}
 use native.Mathlib.Omega.{arith}
 use Rattle.numbers.specs.Numbers.{refusedTile}
 use Rattle.channel.specs.declared.Channel.{Channel}
-use Rattle.channel.specs.Channel.{shiftsAllowed}
+use Rattle.channel.specs.Channel.{isAllowed}
 use Rattle.rect.specs.declared.GridRect.{GridRect}
 use Rattle.rect.specs.Rect.{refused, groupAllowed, byKinds, rectOf}
 
@@ -37,7 +37,7 @@ module _ (c : Channel) (group gx gy : ℕ) where
   others (suc (suc (suc output))) stored u = refl
 
 -- past questions 4 and 13
-module _ (c : Channel) (output stored group gx gy : ℕ) (four : shiftsAllowed c ≡ true) (thirteen : groupAllowed group ≡ true) where
+module _ (c : Channel) (output stored group gx gy : ℕ) (four : isAllowed c ≡ true) (thirteen : groupAllowed group ≡ true) where
   by-kinds : (r : GridRect) → r ≡ byKinds output stored c group gx gy → r ≡ rectOf c output stored group gx gy
   unfolding rectOf
   by-kinds r e = rw (four, thirteen) e

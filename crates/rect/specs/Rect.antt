@@ -4,7 +4,7 @@ use Prim.Native.Nat.{ℕ, zero, suc, _-_, _*_, _/_, _%_, _^_, min}
 use lib.Dec.{eqb}
 use Rattle.numbers.specs.Numbers.{refusedForm, refusedTile}
 use Rattle.channel.specs.declared.Channel.{Channel}
-use Rattle.channel.specs.Channel.{isMeta, shiftsAllowed}
+use Rattle.channel.specs.Channel.{isMeta, isAllowed}
 use Rattle.rect.specs.declared.GridRect.{GridRect}
 
 -- "Group dimension is 128, 256, 512 or 1,024"
@@ -82,6 +82,6 @@ byKinds (suc (suc (suc output))) stored c group gx gy = refused refusedTile
 -- question 4, then question 13, then the rectangle
 unfoldable pub rectOf : Channel → ℕ → ℕ → ℕ → ℕ → ℕ → GridRect
 rectOf c output stored group gx gy =
-    cond (not (shiftsAllowed c)) (refused refusedForm)
+    cond (not (isAllowed c)) (refused refusedForm)
     (cond (not (groupAllowed group)) (refused refusedTile)
     (byKinds output stored c group gx gy))

@@ -7,7 +7,7 @@ ghost use mathlib.Core.Bool.{true};
 ghost use Prim.Native.Nat.{_-_, _≤_, _<_, min};
 ghost use Rattle.rect.specs.Rect as Spec;
 ghost use Rattle.rect.specs.Parts as Parts;
-ghost use Rattle.channel.specs.Channel.{shiftsAllowed, maxShift};
+ghost use Rattle.channel.specs.Channel.{isAllowed, maxShift};
 use channel::Channel;
 use numbers::REFUSED_FORM;
 use numbers::REFUSED_TILE;
@@ -69,8 +69,8 @@ fn whole(channel: Channel) -> GridRect
         answer: 0,
         x: 0,
         y: 0,
-        width: channel.width as u32,
-        height: channel.height as u32,
+        width: channel.width,
+        height: channel.height,
     }
 }
 
@@ -88,14 +88,13 @@ fn tile_side(dimension: u32, shift: u8) -> u32
 }
 
 // What a channel's side has left from `start` on, at most the tile side.
-fn size_from(side: u16, start: u32, tile: u32) -> u32
+fn size_from(side: u32, start: u32, tile: u32) -> u32
     ensures { λ r. ⌜ r ≡ min (side - start) tile ⌝ }
 {
-    let end = side as u32;
-    if end <= start {
+    if side <= start {
         return 0;
     }
-    let left = end - start;
+    let left = side - start;
     if left < tile { left } else { tile }
 }
 
@@ -116,7 +115,7 @@ fn span_of(
     rule: StoredStart,
     dimension: u32,
     group: u32,
-    side: u16,
+    side: u32,
     shift: u8,
     position: u16,
 ) -> Span
@@ -144,7 +143,7 @@ fn tile(
     gx: u16,
     gy: u16,
 ) -> GridRect
-    requires { ⌜ Parts.Dimensions dimension group × (shiftsAllowed channel ≡ true) ⌝ }
+    requires { ⌜ Parts.Dimensions dimension group × (isAllowed channel ≡ true) ⌝ }
     ensures { λ r. ⌜ r ≡ Spec.tileUnlessMeta (Parts.ruleOf rule) dimension channel group gx gy ⌝ }
 {
     if channel.is_meta() {
@@ -177,7 +176,7 @@ pub fn get_grid_rect(
 ) -> GridRect
     ensures { λ r. ⌜ r ≡ Spec.rectOf channel output stored group gx gy ⌝ }
 {
-    if !channel.has_shifts_allowed() {
+    if !channel.is_allowed() {
         return refused(REFUSED_FORM);
     }
     if !is_group_allowed(group) {

@@ -47,8 +47,8 @@ pub extern "C" fn squeeze_tile<'a>(
 // The rectangle of a channel at a grid position: x, y, width and height.
 #[no_mangle]
 pub extern "C" fn squeeze_grid_rect(
-    width: u16,
-    height: u16,
+    width: u32,
+    height: u32,
     hshift: u8,
     vshift: u8,
     output: u8,

@@ -10,18 +10,21 @@ use lib.ListN.{length}
 use Rattle.channel.specs.declared.Channel.{Channel}
 use Rattle.list.specs.declared.ChannelList.{ChannelList}
 use Rattle.list.specs.Lists.{channels, total}
+use Rattle.list.specs.Questions.{countedTotal}
 use Rattle.plan.specs.declared.Steps.{Steps}
 use Rattle.plan.specs.Steps.{steps}
 use Rattle.plan.specs.Plans.{judgePlan, meant}
+use Rattle.plan.proofs.Judged.{judged-total}
 use Rattle.runs.specs.Runs.{squeezed}
 use Rattle.buffer.specs.Buffer.{zeros}
 use Rattle.write.specs.Write.{slicesFit, answer, written, cleared}
 
 -- ---- the slices
-pub fit-tested : (cs : List Channel) (t : ℕ) (picture pyramid work : List ℤ) → t ≡ total cs
-    → eqb (length picture) t && (eqb (length pyramid) t && eqb (length work) t) ≡ slicesFit cs picture pyramid work
+-- t is what `total` gave
+pub fit-tested : (l : ChannelList) (s : Steps) → judgePlan l s ≡ 0 → (t : ℕ) → t ≡ countedTotal (channels l) → (picture pyramid work : List ℤ)
+    → eqb (length picture) t && (eqb (length pyramid) t && eqb (length work) t) ≡ slicesFit (channels l) picture pyramid work
 unfolding slicesFit
-fit-tested cs t picture pyramid work e = rw e
+fit-tested l s ok t e picture pyramid work = rw (e, judged-total l s ok)
 
 pub fit-lengths : (cs : List Channel) (picture pyramid work : List ℤ) → slicesFit cs picture pyramid work ≡ true
     → (length picture ≡ total cs) × (length pyramid ≡ total cs) × (length work ≡ total cs)

@@ -1,6 +1,6 @@
 -- Places in flat arrays, entry by entry, and homes that lie one after the other, as the starts of the channels in the pyramid do. Assumes nothing.
 use mathlib.Core.Path.{_≡_, sym, ap, _∙_}
-use mathlib.Core.Bool.{Bool}
+use mathlib.Core.Bool.{Bool, true}
 use mathlib.Core.List.{List, _++_}
 use Prim.Native.Nat.{ℕ, _+_, _<_, _≤_, min}
 use native.Mathlib.Omega.{arith}
@@ -9,18 +9,19 @@ use lib.IntN.{ℤ}
 use lib.ListN.{length, getD, take, List·getD-append}
 use lib.Seq.{ext-getD}
 use Rattle.numbers.specs.Numbers.{maxSamples}
+use Rattle.channel.specs.Channel.{sidesFit}
 use Rattle.list.specs.declared.Step.{Step}
 use Rattle.list.specs.Tables.{table, map}
 use Rattle.list.specs.Lists.{maxChannels}
 use Rattle.list.proofs.Tables.{table-length, table-at, table-first}
 use Rattle.places.specs.Places as Places
-use Rattle.places.specs.Places.{Place, area, startsFrom, sum, placeAt, placesIn, placesAfter, stepPlaces, areasIn, placeOf}
+use Rattle.places.specs.Places.{Place, bare, area, startsFrom, sum, placeAt, placesIn, placesAfter, stepPlaces, areasIn, placeOf}
 use Rattle.places.specs.Laid.{Laid}
 use Rattle.places.proofs.Arrays.{map-table, starts-length, places-length, places-at}
 use Rattle.places.proofs.Homes.{areas-all}
 use Rattle.places.proofs.Laid.{laid-first, first-home}
 use Rattle.runs.specs.Parts.{joined}
-use Rattle.write.specs.Standing.{lying, held, Ranged, Squeezed, Full}
+use Rattle.write.specs.Standing.{lying, held, Ranged, Fitting, Squeezed, Full}
 use Rattle.write.specs.Settled.{Cleared, Starting, settled}
 use Rattle.write.proofs.Tables.{table-same}
 
@@ -47,6 +48,11 @@ module _ (count : ℕ) (widths heights homes slots : List ℕ) where
         inside = λ k a b. rw (places-at count widths heights homes slots k (omega arith)) at (w .inside k (omega arith));
         apart = λ i j a b d. rw (places-at count widths heights homes slots i (omega arith), places-at count widths heights homes slots j (omega arith)) at (w .apart i j b (omega arith));
       }
+
+  pub fit-ranged : (from to : ℕ) → to ≤ count → ((k : ℕ) → k < length ps → sidesFit (bare (placeOf ps k)) ≡ true) → Fitting at from to
+  fit-ranged from to l w k a b =
+      let c = places-length count widths heights homes slots in
+      rw (places-at count widths heights homes slots k (omega arith)) at (w k (omega arith))
 
   pub squeezed-places : (h : Bool) (from to : ℕ) (picture odds evens odds′ evens′ : List ℤ) → to ≤ count
       → Squeezed h at from to picture odds evens odds′ evens′ → Squeezed h (placeOf ps) from to picture odds evens odds′ evens′

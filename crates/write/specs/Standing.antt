@@ -1,7 +1,7 @@
 -- Where the samples of a list's channels stand while the writer takes its steps: each channel at its home (crate places), in the picture, in the odd
 -- slice or in the even one; and what the functions for one channel, a step and all steps ask and leave. Definitions only.
 use mathlib.Core.Path.{_≡_}
-use mathlib.Core.Bool.{Bool, cond}
+use mathlib.Core.Bool.{Bool, true, cond}
 use mathlib.Core.List.{List, _++_}
 use Prim.Native.Nat.{ℕ, _+_, _<_, _≤_}
 use lib.Dec.{eqb}
@@ -9,6 +9,7 @@ use lib.IntN.{ℤ}
 use lib.ListN.{length}
 use Rattle.numbers.specs.Numbers.{maxSamples}
 use Rattle.channel.specs.declared.Channel.{Channel}
+use Rattle.channel.specs.Channel.{sidesFit}
 use Rattle.list.specs.declared.ChannelList.{ChannelList}
 use Rattle.list.specs.Tables.{map}
 use Rattle.list.specs.Lists.{maxChannels, maxSteps, channels, total}
@@ -58,6 +59,10 @@ pub record Turned (horizontal : Bool) (p : Place) (picture odds evens odds′ ev
 pub record Ranged (n : ℕ) (at : ℕ → Place) (from to : ℕ) : Type 0 where
   pub inside : (k : ℕ) → from ≤ k → k < to → at k .home + area (at k) ≤ n
   pub apart : (i j : ℕ) → from ≤ i → i < j → j < to → Apart (at i .home) (area (at i)) (at j .home) (area (at j))
+
+-- none of them has a side above the limit
+abbrev pub Fitting : (ℕ → Place) → ℕ → ℕ → Type 0
+Fitting at from to = (k : ℕ) → from ≤ k → k < to → sidesFit (bare (at k)) ≡ true
 
 -- the two slices before and after the channels of the range were squeezed
 pub record Squeezed (horizontal : Bool) (at : ℕ → Place) (from to : ℕ) (picture odds evens odds′ evens′ : List ℤ) : Type 0 where

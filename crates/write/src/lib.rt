@@ -5,19 +5,20 @@
 // the pyramid at the end. Total: questions 3 to 11 of list and plan, then 14, each
 // refusal with its number and the slices untouched.
 ghost use mathlib.Core.Path.{_≡_};
+ghost use mathlib.Core.Bool.{true};
 ghost use Prim.Native.Nat.{_+_, _*_, _≤_};
 ghost use lib.ListN.{length};
 ghost use Rattle.numbers.specs.Numbers.{maxSide};
-ghost use Rattle.channel.specs.Channel.{samples};
+ghost use Rattle.channel.specs.Channel.{sidesFit, samples};
 ghost use Rattle.list.specs.Lists.{maxChannels, maxSteps, channels, total};
 ghost use Rattle.list.specs.Questions.{judgeList};
-ghost use Rattle.places.specs.Places.{placeAt, placesIn};
+ghost use Rattle.places.specs.Places.{bare, placeAt, placesIn};
 ghost use Rattle.places.specs.Laid.{part, written};
 ghost use Rattle.plan.specs.Steps as Spec;
 ghost use Rattle.plan.specs.Plans.{judgeSteps};
 ghost use Rattle.runs.specs.Parts.{joined};
 ghost use Rattle.runs.specs.Runs.{linesOf, sizeOf, squeezed};
-ghost use Rattle.write.specs.Standing.{placed, Alike, held, halves, Turned, Ranged, Squeezed, Begun, Full, Reached};
+ghost use Rattle.write.specs.Standing.{placed, Alike, held, halves, Turned, Ranged, Fitting, Squeezed, Begun, Full, Reached};
 ghost use Rattle.write.specs.Settled.{settling, Moved, Cleared, Starting, settled};
 ghost use Rattle.write.specs.Write as Write;
 use channel::Channel;
@@ -30,6 +31,7 @@ use plan::Steps;
 
 // The lines of a channel, and the samples along each.
 fn lines_of(horizontal: bool, c: Channel) -> usize
+    requires { ⌜ sidesFit c ≡ true ⌝ }
     ensures { λ r. ⌜ (r ≡ linesOf horizontal c) × (r ≤ maxSide) ⌝ }
 {
     if horizontal {
@@ -40,6 +42,7 @@ fn lines_of(horizontal: bool, c: Channel) -> usize
 }
 
 fn size_of(horizontal: bool, c: Channel) -> usize
+    requires { ⌜ sidesFit c ≡ true ⌝ }
     ensures { λ r. ⌜ (r ≡ sizeOf horizontal c) × (r ≤ maxSide) ⌝ }
 {
     if horizontal {
@@ -52,7 +55,7 @@ fn size_of(horizontal: bool, c: Channel) -> usize
 // The channel at `home` of one slice as averages and residuals at the same home
 // of another.
 fn squeeze_channel(c: Channel, horizontal: bool, home: usize, from: &[i32], to: &mut [i32])
-    requires { ⌜ (home + samples c ≤ length (now from)) × (home + samples c ≤ length (now to)) ⌝ }
+    requires { ⌜ (home + samples c ≤ length (now from)) × (home + samples c ≤ length (now to)) × (sidesFit c ≡ true) ⌝ }
     ensures { λ _. ⌜ now (to .exit) ≡ written home (halves horizontal c (part home (samples c) (now (from .entry)))) (now (to .entry)) ⌝ }
 {
     let end = home + c.samples() as usize;
@@ -70,15 +73,15 @@ fn squeeze_channel(c: Channel, horizontal: bool, home: usize, from: &[i32], to: 
 // other of these two.
 fn squeeze_place(
     horizontal: bool,
-    width: u16,
-    height: u16,
+    width: u32,
+    height: u32,
     home: usize,
     slot: u8,
     picture: &[i32],
     odd: &mut [i32],
     even: &mut [i32],
 )
-    requires { ⌜ Alike (now picture) (now odd) (now even) × (home + width * height ≤ length (now picture)) ⌝ }
+    requires { ⌜ Alike (now picture) (now odd) (now even) × (home + width * height ≤ length (now picture)) × (sidesFit (bare (placed width height home slot)) ≡ true) ⌝ }
     ensures { λ _. ⌜ Turned horizontal (placed width height home slot) (now (picture .entry)) (now (odd .entry)) (now (even .entry)) (now (odd .exit)) (now (even .exit)) ⌝ }
 {
     let c = Channel {
@@ -99,15 +102,15 @@ fn squeeze_place(
 // The channels of a step's range.
 fn squeeze_step(
     step: Step,
-    widths: &[u16; 256],
-    heights: &[u16; 256],
+    widths: &[u32; 256],
+    heights: &[u32; 256],
     homes: &[usize; 256],
     slots: &[u8; 256],
     picture: &[i32],
     odd: &mut [i32],
     even: &mut [i32],
 )
-    requires { ⌜ Alike (now picture) (now odd) (now even) × (step .begin + step .number ≤ maxChannels) × Ranged (length (now picture)) (placeAt (now widths) (now heights) (now homes) (now slots)) (step .begin) (step .begin + step .number) ⌝ }
+    requires { ⌜ Alike (now picture) (now odd) (now even) × (step .begin + step .number ≤ maxChannels) × Ranged (length (now picture)) (placeAt (now widths) (now heights) (now homes) (now slots)) (step .begin) (step .begin + step .number) × Fitting (placeAt (now widths) (now heights) (now homes) (now slots)) (step .begin) (step .begin + step .number) ⌝ }
     ensures { λ _. ⌜ Squeezed (step .horizontal) (placeAt (now (widths .entry)) (now (heights .entry)) (now (homes .entry)) (now (slots .entry))) (step .begin) (step .begin + step .number) (now (picture .entry)) (now (odd .entry)) (now (even .entry)) (now (odd .exit)) (now (even .exit)) ⌝ }
 {
     let horizontal = step.horizontal;
@@ -131,8 +134,8 @@ fn squeeze_step(
 fn squeeze_steps(
     list: ChannelList,
     steps: Steps,
-    widths: &mut [u16; 256],
-    heights: &mut [u16; 256],
+    widths: &mut [u32; 256],
+    heights: &mut [u32; 256],
     homes: &mut [usize; 256],
     slots: &mut [u8; 256],
     picture: &[i32],
@@ -163,8 +166,8 @@ fn move_part(from: &[i32], at: usize, n: usize, to: &mut [i32], start: usize)
 // A channel that stands in the pyramid, but not at its start, to its home in the
 // work slice.
 fn clear_place(
-    width: u16,
-    height: u16,
+    width: u32,
+    height: u32,
     home: usize,
     slot: u8,
     start: usize,
@@ -182,8 +185,8 @@ fn clear_place(
 // Every channel, so that nothing is lost when the pyramid is written.
 fn clear_way(
     count: usize,
-    widths: &[u16; 256],
-    heights: &[u16; 256],
+    widths: &[u32; 256],
+    heights: &[u32; 256],
     homes: &[usize; 256],
     slots: &[u8; 256],
     starts: &[usize; 256],
@@ -209,8 +212,8 @@ fn clear_way(
 // A channel to its start in the pyramid: from the picture if no step has made it,
 // else from the work slice, unless it stands there already.
 fn settle_place(
-    width: u16,
-    height: u16,
+    width: u32,
+    height: u32,
     home: usize,
     slot: u8,
     start: usize,
@@ -232,8 +235,8 @@ fn settle_place(
 // Every channel, first to last.
 fn settle(
     count: usize,
-    widths: &[u16; 256],
-    heights: &[u16; 256],
+    widths: &[u32; 256],
+    heights: &[u32; 256],
     homes: &[usize; 256],
     slots: &[u8; 256],
     starts: &[usize; 256],
@@ -262,8 +265,8 @@ fn settle(
 // after the other.
 fn finish<'a>(
     count: usize,
-    widths: &'a [u16; 256],
-    heights: &'a [u16; 256],
+    widths: &'a [u32; 256],
+    heights: &'a [u32; 256],
     homes: &[usize; 256],
     slots: &[u8; 256],
     picture: &[i32],

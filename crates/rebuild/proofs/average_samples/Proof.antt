@@ -1,5 +1,5 @@
--- `average_samples` meets its contract: the lines by the averages along them (crate runs); sides of 16 bits keep the product small.
--- Assumes nothing.
+-- `average_samples` meets its contract: the lines by the averages along them (crate runs), two numbers of 32 bits, whose product
+-- fits 64. Assumes nothing.
 use mathlib.Core.Path.{sym}
 use Prim.Native.Nat.{_≤_}
 use native.Mathlib.Omega.{arith}
@@ -19,12 +19,12 @@ averages-along-requires c κs = search needs
 mul-result : tie.Need-mul-result
 mul-result c =
     let q = c .before .before in
-    let lines = lines-small (q .args .horizontal) (q .args .c) (omega arith) (omega arith) in
-    let size = size-small (q .args .horizontal) (q .args .c) (omega arith) (omega arith) in
+    let lines = lines-small (q .args .horizontal) (q .args .c) 4294967295 (omega arith) (omega arith) in
+    let size = size-small (q .args .horizontal) (q .args .c) 4294967295 (omega arith) (omega arith) in
     let el = c .before .across .ensures in
     let es = c .averages-along .ensures in
-    let l : c .before .across .result ≤ 65535 = omega arith in
-    let s : c .averages-along .result ≤ 65535 = omega arith in
+    let l : c .before .across .result ≤ 4294967295 = omega arith in
+    let s : c .averages-along .result ≤ 4294967295 = omega arith in
     omega (arith, mul-le-mul l s)
 
 returns : tie.Need-returns

@@ -1,4 +1,4 @@
--- `averages_along` meets its contract: sides of 16 bits leave room for the sum. Assumes nothing.
+-- `averages_along` meets its contract: sides of 32 bits leave room for the sum. Assumes nothing.
 use native.Mathlib.Omega.{arith}
 use borrow.Author.Needs.{needs}
 use Rattle.rebuild.proofs.OneTile.{size-small}
@@ -11,7 +11,7 @@ along-requires c κs = search needs
 add-result : tie.Need-add-result
 add-result c =
     let a = c .before .args in
-    let small = size-small (a .horizontal) (a .c) (omega arith) (omega arith) in
+    let small = size-small (a .horizontal) (a .c) 4294967295 (omega arith) (omega arith) in
     omega (arith, c .along .ensures)
 
 returns : tie.Need-returns

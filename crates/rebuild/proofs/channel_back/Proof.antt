@@ -1,6 +1,5 @@
 -- `channel_back` meets its contract: the tile call is accepted and leaves the channel (proofs/OneTile.antt). Assumes nothing.
 use mathlib.Core.Path.{_∙_}
-use native.Mathlib.Omega.{arith}
 use borrow.Author.Needs.{needs}
 use Rattle.rebuild.proofs.OneTile.{one-tile}
 use Rattle.rebuild.proofs.channel_back.Statement.{statement}
@@ -57,7 +56,7 @@ returns c =
     let ea = q .before .before .before .averages-along .ensures in
     let es = q .before .along .ensures in
     c .before .squeeze-tile .ensures .1
-    ∙ one-tile (a .horizontal) (a .c) (omega arith) (omega arith) (a .avg .now) (a .res .now) (a .out .now) (start .pre) (q .before .before .sides .result) (q .sides2 .result)
+    ∙ one-tile (a .horizontal) (a .c) (a .avg .now) (a .res .now) (a .out .now) (start .pre) (q .before .before .sides .result) (q .sides2 .result)
     (q .before .before .sides .ensures ∙ rw (el, ea)) (q .sides2 .ensures ∙ rw (el, ea, es))
 
 pub channel-back-spec : {M : Type 1} → statement M

@@ -17,6 +17,7 @@ put-channel-requires-2 c κs =
       residual-in = f .residual-in;
       home-in = f .home-in;
       few = f .few;
+      sides = f .sides;
       beside-long = f .out-long;
       out-long = f .beside-long;
     }

@@ -66,6 +66,7 @@ channel-back-requires c κs =
       res-long = ap length (c .before .lying2 .ensures) ∙ rw z (source-length (a .res) _ (a .pyramid .now) (a .other .now) (f .residual-in) (f .beside-long));
       out-long = rw n (ap length (lent (a .home) (samples (a .c)) (a .out .now)) ∙ part-length (a .home) (samples (a .c)) (a .out .now) (omega (arith, f .home-in, f .out-long)));
       few = omega (arith, f .home-in, f .few);
+      sides = f .sides;
     }
 
 same-length : tie.Need-same-length

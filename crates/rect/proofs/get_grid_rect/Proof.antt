@@ -6,7 +6,7 @@ use Prim.Native.Nat.{ℕ, _≤_, _<_}
 use native.Mathlib.Omega.{arith}
 use borrow.Author.Needs.{needs}
 use borrow.Author.Tests.{not-true, not-false}
-use Rattle.channel.specs.Channel.{shiftsAllowed}
+use Rattle.channel.specs.Channel.{isAllowed}
 use Rattle.rect.specs.declared.GridRect.{GridRect}
 use Rattle.rect.specs.Rect.{lfDimension, groupAllowed, byKinds, rectOf}
 use Rattle.rect.specs.Parts.{Dimensions}
@@ -18,15 +18,15 @@ use Rattle.rect.proofs.get_grid_rect.Tie as tie
 abbrev entry : tie.Else2 → tie.Start
 entry c = c .before .before .before .before
 
-four : (c : tie.Else1) → shiftsAllowed (c .before .before .args .channel) ≡ true
-four c = sym (c .before .has-shifts-allowed .ensures) ∙ not-false _ (c .if1 .left)
+four : (c : tie.Else1) → isAllowed (c .before .before .args .channel) ≡ true
+four c = sym (c .before .is-allowed .ensures) ∙ not-false _ (c .if1 .left)
 
 thirteen : (c : tie.Else2) → groupAllowed (entry c .args .group) ≡ true
 thirteen c = sym (c .before .is-group-allowed .ensures) ∙ not-false _ (c .if2 .left)
 
 -- what a tile asks
 passed : (c : tie.Else2) (dimension : ℕ) → dimension ≤ lfDimension (entry c .args .group)
-    → Dimensions dimension (entry c .args .group) × (shiftsAllowed (entry c .args .channel) ≡ true)
+    → Dimensions dimension (entry c .args .group) × (isAllowed (entry c .args .channel) ≡ true)
 passed c dimension h = (record { within = h; small = group-small (entry c .args .group) (thirteen c) }, four (c .before .before))
 
 -- the result of the arm of the pair (p, q)
@@ -38,8 +38,8 @@ arm c p q r l n e =
     let a = entry c .args in
     Chosen.arm (a .channel) (a .output) (a .stored) (a .group) (a .gx) (a .gy) (four (c .before .before)) (thirteen c) p q r (omega arith) l n e
 
-has-shifts-allowed-requires : tie.Need-has-shifts-allowed-requires
-has-shifts-allowed-requires c κs = search needs
+is-allowed-requires : tie.Need-is-allowed-requires
+is-allowed-requires c κs = search needs
 
 refused-requires : tie.Need-refused-requires
 refused-requires c κs = search needs
@@ -48,7 +48,7 @@ returns : tie.Need-returns
 unfolding rectOf
 returns c =
     let asked = c .before .before in
-    let no : shiftsAllowed (asked .before .args .channel) ≡ false = sym (asked .has-shifts-allowed .ensures) ∙ not-true _ (c .before .if1 .taken) in
+    let no : isAllowed (asked .before .args .channel) ≡ false = sym (asked .is-allowed .ensures) ∙ not-true _ (c .before .if1 .taken) in
     rw no (c .refused .ensures)
 
 is-group-allowed-requires : tie.Need-is-group-allowed-requires
@@ -138,7 +138,7 @@ pub get-grid-rect-spec : {M : Type 1} → statement M
 get-grid-rect-spec =
     tie.close
     (tie.spec
-    has-shifts-allowed-requires
+    is-allowed-requires
     refused-requires
     returns
     is-group-allowed-requires

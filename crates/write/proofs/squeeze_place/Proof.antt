@@ -12,21 +12,21 @@ unfolding Channel.samples
 squeeze-channel-requires c κs =
     let start = c .before .before in
     let a = start .pre .0 in
-    (start .pre .1, omega (arith, start .pre .1, a .odds-length))
+    (start .pre .1, omega (arith, start .pre .1, a .odds-length), start .pre .2)
 
 squeeze-channel-requires-2 : tie.Need-squeeze-channel-requires-2
 unfolding Channel.samples
 squeeze-channel-requires-2 c κs =
     let start = c .before .before .before .before in
     let a = start .pre .0 in
-    (omega (arith, start .pre .1, a .odds-length), omega (arith, start .pre .1, a .evens-length))
+    (omega (arith, start .pre .1, a .odds-length), omega (arith, start .pre .1, a .evens-length), start .pre .2)
 
 squeeze-channel-requires-3 : tie.Need-squeeze-channel-requires-3
 unfolding Channel.samples
 squeeze-channel-requires-3 c κs =
     let start = c .before .before .before .before in
     let a = start .pre .0 in
-    (omega (arith, start .pre .1, a .evens-length), omega (arith, start .pre .1, a .odds-length))
+    (omega (arith, start .pre .1, a .evens-length), omega (arith, start .pre .1, a .odds-length), start .pre .2)
 
 same-length : tie.Need-same-length
 same-length c = search needs

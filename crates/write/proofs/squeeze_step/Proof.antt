@@ -66,8 +66,9 @@ squeeze-place-requires : tie.Need-squeeze-place-requires Inv-loop μ-loop
 squeeze-place-requires c κs =
     let turn = c .before .before .before .before .before .before in
     let head = turn .before in
-    let start = head .before .before .before in
-    (alike head, start .pre .2 .inside (head .loop .k) (head .loop .inv .0) (turn .loop-test .taken))
+    let p = head .before .before .before .pre in
+    let l = head .loop in
+    (alike head, p .2 .inside (l .k) (l .inv .0) (turn .loop-test .taken), p .3 (l .k) (l .inv .0) (turn .loop-test .taken))
 
 add-k : tie.Need-add-k Inv-loop μ-loop
 add-k c = search needs

@@ -10,10 +10,11 @@ use Rattle.list.specs.Lists.{maxChannels, channels}
 use Rattle.list.proofs.Acceptance.{list-accepted}
 use Rattle.places.specs.Places.{placesIn}
 use Rattle.places.proofs.Laid.{sum-total}
+use Rattle.places.proofs.Sided.{sided-fit}
 use Rattle.write.specs.Standing.{Begun}
 use Rattle.write.proofs.Running.{Running, running-none, small, reach, running-more, running-all}
 use Rattle.places.proofs.Arrays.{places-length}
-use Rattle.write.proofs.Homes.{laid-ranged, squeezed-places, places-stepped}
+use Rattle.write.proofs.Homes.{laid-ranged, fit-ranged, squeezed-places, places-stepped}
 use Rattle.write.proofs.squeeze_steps.Statement.{statement}
 use Rattle.write.proofs.squeeze_steps.Tie as tie
 
@@ -55,8 +56,12 @@ squeeze-step-requires c κs =
     let head = step .before .before in
     let l = head .loop in
     let r = reached step in
-    let w = running head in
-    (w .alike, omega (arith, r), laid-ranged (l .count) (l .widths) (l .heights) (l .homes) (l .slots) _ _ _ (omega (arith, r)) (w .laid))
+    let w = running head in (
+      w .alike,
+      omega (arith, r),
+      laid-ranged (l .count) (l .widths) (l .heights) (l .homes) (l .slots) _ _ _ (omega (arith, r)) (w .laid),
+      fit-ranged (l .count) (l .widths) (l .heights) (l .homes) (l .slots) _ _ (omega (arith, r)) (sided-fit (w .cs) _ (w .sided) (w .fine)),
+    )
 
 place-step-requires : tie.Need-place-step-requires Inv-loop μ-loop
 place-step-requires c κs = search needs

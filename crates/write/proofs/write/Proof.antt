@@ -28,7 +28,7 @@ plan c = sym (judged (c .before .before .before)) ∙ c .before .before .if1 .le
 slices : (c : tie.Else2) → let a = c .before .before .before .before .args in slicesFit (channels (a .list)) (a .picture .now) (a .pyramid .now) (a .work .now) ≡ true
 slices c =
     let a = c .before .before .before .before .args in
-    yes (fit-tested (channels (a .list)) (c .before .total .result) (a .picture .now) (a .pyramid .now) (a .work .now) (c .before .total .ensures)) (c .if2 .left)
+    yes (fit-tested (a .list) (a .steps) (plan c) (c .before .total .result) (c .before .total .ensures) (a .picture .now) (a .pyramid .now) (a .work .now)) (c .if2 .left)
 
 -- the slices and the steps of the run
 module _ (c : tie.After-run-arg2) where
@@ -64,8 +64,9 @@ returns-2 : tie.Need-returns-2
 returns-2 c =
     let rewrote = c .before .before .before in
     let a = rewrote .before .args in
-    slices-refused (a .list) (a .steps) (a .picture .now) (a .pyramid .now) (a .work .now) (sym (judged rewrote) ∙ c .before .before .if1 .left)
-    (no (fit-tested (channels (a .list)) (c .before .total .result) (a .picture .now) (a .pyramid .now) (a .work .now) (c .before .total .ensures)) (c .if2 .taken))
+    let ok = sym (judged rewrote) ∙ c .before .before .if1 .left in
+    slices-refused (a .list) (a .steps) (a .picture .now) (a .pyramid .now) (a .work .now) ok
+    (no (fit-tested (a .list) (a .steps) ok (c .before .total .result) (c .before .total .ensures) (a .picture .now) (a .pyramid .now) (a .work .now)) (c .if2 .taken))
 
 meant-steps-requires : tie.Need-meant-steps-requires
 meant-steps-requires c κs = search needs
