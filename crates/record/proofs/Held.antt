@@ -20,12 +20,11 @@ use Rattle.plan.specs.declared.Steps.{Steps}
 use Rattle.plan.specs.Steps as S
 use Rattle.plan.specs.Adding.{pushed}
 use Rattle.plan.proofs.Packed.{packed-count, pushed-packed}
-use Rattle.record.specs.Bytes.{channelSize, stepSize}
-use Rattle.record.specs.Reading.{refused, asked, fieldChannel, fieldStep, isStep, judgeField, finished, answerOf, readFields, formOf}
+use Rattle.record.specs.Reading.{refused, asked, fieldSize, fieldChannel, fieldStep, isStep, judgeField, finished, answerOf, readFields, formOf}
 use Rattle.record.specs.Adding.{withChannel}
 use Rattle.record.specs.Records.{packedForm}
 use Rattle.record.proofs.Pushed.{metas-pushed, list-pushed, list-count}
-use Rattle.record.proofs.Fields.{is-step, is-channel, step-allowed, channel-allowed}
+use Rattle.record.proofs.Fields.{judged-inside, is-step, is-channel, step-allowed, channel-allowed}
 
 -- cs and ss were read from the bytes before `at`, and `turns` are enough for those from there on
 pub record Held (bytes : List ℕ) (list : ChannelList) (steps : Steps) (metas : Bool) (at : ℕ) : Type 0 where
@@ -89,8 +88,8 @@ module _ (bytes : List ℕ) (list : ChannelList) (steps : Steps) (metas : Bool) 
     turn : (t : ℕ) → readFields (suc t) field (w .cs) (w .ss)
         ≡ asked (eqb answer 0) answer
         (cond (isStep field)
-        (readFields t (drop stepSize field) (w .cs) (w .ss ++ (fieldStep field ∷ [])))
-        (readFields t (drop channelSize field) (w .cs ++ (fieldChannel field ∷ [])) (w .ss)))
+        (readFields t (drop (fieldSize field) field) (w .cs) (w .ss ++ (fieldStep field ∷ [])))
+        (readFields t (drop (fieldSize field) field) (w .cs ++ (fieldChannel field ∷ [])) (w .ss)))
     turn t =
         let n : length field ≡ 0 → ⊥ = λ e. omega (arith, length-drop at bytes, ap length whole) in
         rw (ne-eqb (length field) 0 n, ← judged)
@@ -110,28 +109,32 @@ module _ (bytes : List ℕ) (list : ChannelList) (steps : Steps) (metas : Bool) 
       accepted : judgeField field (length (w .cs)) (all isMeta (w .cs)) (length (w .ss)) ≡ 0
       accepted = sym judged ∙ z
 
-      next : (n : ℕ) → drop n field ≡ drop (at + n) bytes
-      next n = ap (drop n) whole ∙ drop-drop n at bytes
+      next : drop (fieldSize field) field ≡ drop (at + fieldSize field) bytes
+      next = ap (drop (fieldSize field)) whole ∙ drop-drop (fieldSize field) at bytes
 
-      pub held-step : (s : Steps) → isStep field ≡ true → s ≡ pushed steps (fieldStep field) → Held bytes list s metas (at + stepSize)
-      held-step s k es =
+      long : at + fieldSize field ≤ length bytes
+      long = omega (arith, judged-inside field _ _ _ accepted .1, length-drop at bytes, ap length whole)
+
+      pub held-step : (l : ChannelList) (s : Steps) (m : Bool) → isStep field ≡ true → s ≡ pushed steps (fieldStep field) → l ≡ list → m ≡ metas
+          → Held bytes l s m (at + fieldSize field)
+      held-step l s m k es el em =
           let f = is-step field _ _ _ accepted k in
-          let l = step-allowed field _ (f .judged) in
+          let a = step-allowed field _ (f .judged) in
           record {
             cs = w .cs;
             ss = w .ss ++ fieldStep field ∷ [];
             turns = more .0;
-            list-is = w .list-is;
-            steps-are = es ∙ rw (w .steps-are) (pushed-packed (w .ss) (fieldStep field) (l .0));
-            metas-are = w .metas-are;
-            inside = omega (arith, f .long, length-drop at bytes, ap length whole);
+            list-is = el ∙ w .list-is;
+            steps-are = es ∙ rw (w .steps-are) (pushed-packed (w .ss) (fieldStep field) (a .0));
+            metas-are = em ∙ w .metas-are;
+            inside = long;
             enough = omega (arith, w .enough, more .1);
-            so = rw (← next stepSize) (sym (turn (more .0) ∙ rw (eq-eqb answer 0 z, k)) ∙ more .2);
+            so = rw (← next) (sym (turn (more .0) ∙ rw (eq-eqb answer 0 z, k)) ∙ more .2);
           }
 
-      pub held-channel : (l : ChannelList) (c : Channel) (m : Bool) → isStep field ≡ false → c ≡ fieldChannel field → l ≡ withChannel list c → m ≡ isMeta c
-          → Held bytes l steps m (at + channelSize)
-      held-channel l c m k ec el em =
+      pub held-channel : (l : ChannelList) (s : Steps) (m : Bool) (c : Channel) → isStep field ≡ false → c ≡ fieldChannel field → l ≡ withChannel list c → s ≡ steps → m ≡ isMeta c
+          → Held bytes l s m (at + fieldSize field)
+      held-channel l s m c k ec el es em =
           let f = is-channel field _ _ _ accepted k in
           let a = channel-allowed field _ _ (f .judged) in
           record {
@@ -139,9 +142,9 @@ module _ (bytes : List ℕ) (list : ChannelList) (steps : Steps) (metas : Bool) 
             ss = w .ss;
             turns = more .0;
             list-is = el ∙ rw (ec, w .list-is) (list-pushed (w .cs) (fieldChannel field) (a .0));
-            steps-are = w .steps-are;
+            steps-are = es ∙ w .steps-are;
             metas-are = em ∙ rw ec (metas-pushed (w .cs) (fieldChannel field) (a .1));
-            inside = omega (arith, f .long, length-drop at bytes, ap length whole);
+            inside = long;
             enough = omega (arith, w .enough, more .1);
-            so = rw (← next channelSize) (sym (turn (more .0) ∙ rw (eq-eqb answer 0 z, k)) ∙ more .2);
+            so = rw (← next) (sym (turn (more .0) ∙ rw (eq-eqb answer 0 z, k)) ∙ more .2);
           }

@@ -15,16 +15,16 @@ use Rattle.list.specs.declared.Step.{Step}
 use Rattle.list.specs.declared.Stepped.{Stepped}
 use Rattle.list.specs.Lists.{maxChannels, maxSteps, channels}
 use Rattle.list.proofs.Tables.{table-length}
+use Rattle.list.proofs.Channels.{channels-length}
 use Rattle.plan.specs.declared.Steps.{Steps}
 use Rattle.plan.specs.Steps as S
 use Rattle.plan.specs.Plans.{judgePlan, rewritten}
-use Rattle.plan.proofs.Counts.{counted-all}
 use Rattle.record.specs.declared.Record.{Record}
-use Rattle.record.specs.Bytes.{channelSize, stepSize, channelField, stepField, channelFields, stepFields, recordOf, placed}
+use Rattle.record.specs.Bytes.{stripSize, stepSize, stepField, channelFields, stepFields, recordOf, placed}
 use Rattle.record.specs.Reading.{Form, refused, asked, isStep, finished, answerOf, readFields, formOf}
 use Rattle.record.specs.Records.{packedForm, readAnswer, readOf, recordFor, writeAnswer, writtenOf, writtenBytes}
 use Rattle.plan.proofs.Judged.{plan-answer, judged-counts}
-use Rattle.record.proofs.Joined.{channel-size, step-size, joined-length}
+use Rattle.record.proofs.Joined.{step-size, joined-length, channels-most}
 use Rattle.record.proofs.Placed.{placed-more}
 
 -- ---- the reader
@@ -112,18 +112,14 @@ module _ (l : ChannelList) (s : Steps) (a : ℕ) (ea : a ≡ judgePlan l s) wher
     pub counts : (l .count ≤ maxChannels) × (s .count ≤ maxSteps)
     counts = judged-counts l s (sym ea ∙ z)
 
-    pub channels-size : length (channelFields (channels l)) ≡ channelSize * l .count
-    channels-size = joined-length channelField channelSize channel-size (channels l) ∙ ap (λ (n : ℕ). channelSize * n) (counted-all l (counts .0))
+    pub channels-few : length (channelFields (channels l)) ≤ stripSize * maxChannels
+    channels-few = channels-most (channels l) (omega (arith, channels-length l))
 
     pub steps-size : length (stepFields (S.steps s)) ≡ stepSize * s .count
     unfolding S.steps
     steps-size =
         let n : length (S.steps s) ≡ s .count = omega (arith, table-length (S.stepAt s) 0 (min (s .count) maxSteps), counts .1) in
         joined-length stepField stepSize step-size (S.steps s) ∙ ap (λ (k : ℕ). stepSize * k) n
-
-    record-size : length (recordFor l s) ≡ channelSize * l .count + stepSize * s .count
-    unfolding recordOf
-    record-size = omega (arith, length-append (channelFields (channels l)) (stepFields (S.steps s)), channels-size, steps-size)
 
     module _ (out : List ℕ) where
       write-answer : (b : Bool) → leb (length (recordFor l s)) (length out) ≡ b → writeAnswer l s out ≡ cond b 0 refusedLength
@@ -133,21 +129,27 @@ module _ (l : ChannelList) (s : Steps) (a : ℕ) (ea : a ≡ judgePlan l s) wher
       pub write-fits : length (recordFor l s) ≤ length out → writeAnswer l s out ≡ 0
       write-fits h = write-answer true (le-leb (length (recordFor l s)) (length out) h)
 
-      pub write-short : length out < channelSize * l .count + stepSize * s .count → (record { answer = refusedLength; length = 0 } ≡ writtenOf l s out) × (out ≡ writtenBytes l s out)
-      write-short h = written-nothing l s out refusedLength (write-answer false (lt-leb (length (recordFor l s)) (length out) (omega (arith, record-size)))) (λ e. omega arith)
-
-      module _ (h : channelSize * l .count + stepSize * s .count ≤ length out) where
-        fits : writeAnswer l s out ≡ 0
-        fits = write-fits (omega (arith, record-size))
-
-        pub write-length : record { answer = 0; length = channelSize * l .count + stepSize * s .count } ≡ writtenOf l s out
-        write-length = sym (written-length l s out fits ∙ rw record-size)
-
-        pub write-bytes : (out₁ out₂ : List ℕ) → out₁ ≡ placed out 0 (channelFields (channels l)) → out₂ ≡ placed out₁ (channelSize * l .count) (stepFields (S.steps s))
-            → out₂ ≡ writtenBytes l s out
+      -- start is the length of the channels' fields
+      module _ (start : ℕ) (es : start ≡ length (channelFields (channels l))) where
+        record-size : length (recordFor l s) ≡ start + stepSize * s .count
         unfolding recordOf
-        write-bytes out₁ out₂ e₁ e₂ =
-            let n : channelSize * l .count ≡ 0 + length (channelFields (channels l)) = omega (arith, channels-size) in
-            e₂
-            ∙ rw (e₁, n, placed-more out 0 (channelFields (channels l)) (omega (arith, channels-size)) (stepFields (S.steps s)), zero-add)
-            (sym (written-bytes l s out fits))
+        record-size = omega (arith, length-append (channelFields (channels l)) (stepFields (S.steps s)), steps-size)
+
+        pub write-short : length out < start + stepSize * s .count → (record { answer = refusedLength; length = 0 } ≡ writtenOf l s out) × (out ≡ writtenBytes l s out)
+        write-short h = written-nothing l s out refusedLength (write-answer false (lt-leb (length (recordFor l s)) (length out) (omega (arith, record-size)))) (λ e. omega arith)
+
+        module _ (h : start + stepSize * s .count ≤ length out) where
+          fits : writeAnswer l s out ≡ 0
+          fits = write-fits (omega (arith, record-size))
+
+          pub write-length : record { answer = 0; length = start + stepSize * s .count } ≡ writtenOf l s out
+          write-length = sym (written-length l s out fits ∙ rw record-size)
+
+          pub write-bytes : (out₁ out₂ : List ℕ) → out₁ ≡ placed out 0 (channelFields (channels l)) → out₂ ≡ placed out₁ start (stepFields (S.steps s))
+              → out₂ ≡ writtenBytes l s out
+          unfolding recordOf
+          write-bytes out₁ out₂ e₁ e₂ =
+              let n : start ≡ 0 + length (channelFields (channels l)) = omega arith in
+              e₂
+              ∙ rw (e₁, n, placed-more out 0 (channelFields (channels l)) (omega arith) (stepFields (S.steps s)), zero-add)
+              (sym (written-bytes l s out fits))

@@ -1,4 +1,5 @@
--- Bytes put into a slice (`placed` of specs/Bytes.antt) part after part, and a loop that puts the fields of a table one by one. Assumes nothing.
+-- Bytes put into a slice (`placed` of specs/Bytes.antt) part after part, and a loop that counts the bytes of a table's fields, or puts them, one by
+-- one. Assumes nothing.
 use mathlib.Core.Path.{_≡_, sym, ap, _∙_}
 use mathlib.Core.List.{List, [], _++_, append-assoc, append-nil}
 use Prim.Native.Nat.{ℕ, _+_, _-_, _<_, _≤_, min}
@@ -47,48 +48,70 @@ module _ (out : List ℕ) (at : ℕ) (xs : List ℕ) where
   unfolding putBytes
   put-placed h = rw (le-leb (at + length xs) (length out) h)
 
+  pub put-field : at + length xs ≤ length out → (out′ field : List ℕ) (size : ℕ) → field ≡ xs → length field ≡ size → out′ ≡ putBytes out at field
+      → (at + size ≡ at + length xs) × (out′ ≡ placed out at xs)
+  put-field h out′ field size ef es eo = (omega (arith, ap length ef), eo ∙ rw ef (put-placed h))
+
   pub put-nothing : length out < at + length xs → out ≡ putBytes out at xs
   unfolding putBytes
   put-nothing h = rw (lt-leb (at + length xs) (length out) h)
 
--- n fields, those of f, give `whole`, which is put into out₀ from `start` on; k of them are there
-pub record Putting {ℓ} {A : Type ℓ} (field : A → List ℕ) (f : ℕ → A) (n : ℕ) (whole : List ℕ) (start : ℕ) (out₀ out : List ℕ) (at k : ℕ) : Type ℓ where
+-- n fields, those of f, give `whole`; k of them lie from `start` to `at`
+pub record Counting {ℓ} {A : Type ℓ} (field : A → List ℕ) (f : ℕ → A) (n : ℕ) (whole : List ℕ) (start at k : ℕ) : Type ℓ where
   pub done : List ℕ
   pub inside : k ≤ n
   pub at-is : at ≡ start + length done
-  pub so : out ≡ placed out₀ start done
   pub left : done ++ joined field (table f k (n - k)) ≡ whole
 
-module _ {ℓ} {A : Type ℓ} (field : A → List ℕ) (f : ℕ → A) (n : ℕ) (whole : List ℕ) (start : ℕ) (out₀ : List ℕ) (fits : start + length whole ≤ length out₀) where
-  pub putting-none : joined field (table f 0 (n - 0)) ≡ whole → Putting field f n whole start out₀ out₀ start 0
-  putting-none e = record { done = []; inside = omega arith; at-is = omega arith; so = placed-none out₀ start; left = e }
+module _ {ℓ} {A : Type ℓ} (field : A → List ℕ) (f : ℕ → A) (n : ℕ) (whole : List ℕ) (start : ℕ) where
+  pub counting-none : joined field (table f 0 (n - 0)) ≡ whole → Counting field f n whole start start 0
+  counting-none e = record { done = []; inside = omega arith; at-is = omega arith; left = e }
 
-  module _ (out : List ℕ) (at k : ℕ) (w : Putting field f n whole start out₀ out at k) where
+  module _ (at k : ℕ) (w : Counting field f n whole start at k) where
     all-length : length (w .done) + length (joined field (table f k (n - k))) ≡ length whole
     all-length = sym (length-append (w .done) _) ∙ ap length (w .left)
 
-    pub putting-length : length out ≡ length out₀
-    putting-length = ap length (w .so) ∙ placed-length out₀ start (w .done) (omega (arith, all-length))
-
-    pub putting-all : n ≤ k → out ≡ placed out₀ start whole
-    putting-all h =
-        let e : w .done ≡ whole = sym (append-nil (w .done)) ∙ rw (table-none f k n h) at (w .left) in
-        w .so ∙ ap (placed out₀ start) e
+    pub counting-all : n ≤ k → w .done ≡ whole
+    counting-all h = sym (append-nil (w .done)) ∙ rw (table-none f k n h) at (w .left)
 
     module _ (h : k < n) (v : List ℕ) (ev : v ≡ field (f k)) where
       next : (w .done ++ v) ++ joined field (table f (k + 1) (n - (k + 1))) ≡ whole
       next = rw (append-assoc, ev) (rw (table-rest f k n h) at (w .left))
 
-      pub putting-room : at + length v ≤ length out
-      putting-room =
-          omega (arith, putting-length, w .at-is, length-append (w .done) v, length-append (w .done ++ v) (joined field (table f (k + 1) (n - (k + 1)))), ap length next)
+      pub counting-room : at + length v ≤ start + length whole
+      counting-room = omega (arith, w .at-is, length-append (w .done) v, length-append (w .done ++ v) (joined field (table f (k + 1) (n - (k + 1)))), ap length next)
 
-      pub putting-more : (out′ : List ℕ) (size : ℕ) → out′ ≡ putBytes out at v → size ≡ length v → Putting field f n whole start out₀ out′ (at + size) (k + 1)
-      putting-more out′ size eo es =
+      pub counting-more : (at′ : ℕ) → at′ ≡ at + length v → Counting field f n whole start at′ (k + 1)
+      counting-more at′ e = record { done = w .done ++ v; inside = omega arith; at-is = omega (arith, w .at-is, length-append (w .done) v); left = next }
+
+-- they are put into out₀
+pub record Putting {ℓ} {A : Type ℓ} (field : A → List ℕ) (f : ℕ → A) (n : ℕ) (whole : List ℕ) (start : ℕ) (out₀ out : List ℕ) (at k : ℕ) : Type ℓ where
+  pub counting : Counting field f n whole start at k
+  pub so : out ≡ placed out₀ start (counting .done)
+
+module _ {ℓ} {A : Type ℓ} (field : A → List ℕ) (f : ℕ → A) (n : ℕ) (whole : List ℕ) (start : ℕ) (out₀ : List ℕ) (fits : start + length whole ≤ length out₀) where
+  pub putting-none : joined field (table f 0 (n - 0)) ≡ whole → Putting field f n whole start out₀ out₀ start 0
+  unfolding counting-none
+  putting-none e = record { counting = counting-none field f n whole start e; so = placed-none out₀ start }
+
+  module _ (out : List ℕ) (at k : ℕ) (w : Putting field f n whole start out₀ out at k) where
+    room : start + length (w .counting .done) ≤ length out₀
+    room = omega (arith, all-length field f n whole start at k (w .counting))
+
+    pub putting-length : length out ≡ length out₀
+    putting-length = ap length (w .so) ∙ placed-length out₀ start (w .counting .done) room
+
+    pub putting-all : n ≤ k → out ≡ placed out₀ start whole
+    putting-all h = w .so ∙ ap (placed out₀ start) (counting-all field f n whole start at k (w .counting) h)
+
+    module _ (h : k < n) (v : List ℕ) (ev : v ≡ field (f k)) where
+      pub putting-room : at + length v ≤ length out
+      putting-room = omega (arith, putting-length, counting-room field f n whole start at k (w .counting) h v ev)
+
+      pub putting-more : (out′ : List ℕ) (at′ : ℕ) → out′ ≡ placed out at v → at′ ≡ at + length v → Putting field f n whole start out₀ out′ at′ (k + 1)
+      unfolding counting-more
+      putting-more out′ at′ eo ea =
           record {
-            done = w .done ++ v;
-            inside = omega arith;
-            at-is = omega (arith, w .at-is, length-append (w .done) v);
-            so = eo ∙ put-placed out at v putting-room ∙ rw (w .so, w .at-is) (placed-more out₀ start (w .done) (omega (arith, all-length)) v);
-            left = next;
+            counting = counting-more field f n whole start at k (w .counting) h v ev at′ ea;
+            so = eo ∙ rw (w .so, w .counting .at-is) (placed-more out₀ start (w .counting .done) room v);
           }

@@ -6,7 +6,7 @@ use Prim.Native.Nat.{ℕ, _+_, _<_}
 use native.Mathlib.Omega.{arith}
 use lib.ListN.{length, set, length-append}
 use Rattle.channel.specs.declared.Channel.{Channel}
-use Rattle.channel.specs.Channel.{isMeta, shiftsAllowed}
+use Rattle.channel.specs.Channel.{isMeta, isAllowed}
 use Rattle.list.specs.Tables.{padded, map, all}
 use Rattle.list.specs.Lists as Lists
 use Rattle.list.specs.Lists.{maxChannels}
@@ -26,7 +26,7 @@ all-snoc p (y ∷ xs) x = ap (λ (b : Bool). p y && b) (all-snoc p xs x) ∙ sym
 -- "meta channels first": the last channel's kind tells whether all are meta
 pub metas-pushed : (cs : List Channel) (c : Channel) → channelAllowed c (all isMeta cs) ≡ true → isMeta c ≡ all isMeta (cs ++ c ∷ [])
 unfolding channelAllowed
-metas-pushed cs c h = rw all-snoc (go (isMeta c) (all isMeta cs) (and-eq-true-iff (shiftsAllowed c) (not (isMeta c) || all isMeta cs) .0 h .1))
+metas-pushed cs c h = rw all-snoc (go (isMeta c) (all isMeta cs) (and-eq-true-iff (isAllowed c) (not (isMeta c) || all isMeta cs) .0 h .1))
   where
     go : (m a : Bool) → (not m || a) ≡ true → m ≡ (a && m)
     go true true e = refl

@@ -1,20 +1,21 @@
 -- A record that the writer makes reads as what it was made of: each field is accepted and gives its channel or step. Assumes nothing.
 use mathlib.Core.Path.{_≡_, refl, ap, _∙_}
-use mathlib.Core.Bool.{Bool, true, false, cond, _&&_, _||_, not, false≢true}
+use mathlib.Core.Bool.{Bool, true, false, cond, _&&_, _||_, not, or-true, and-eq-true-iff, Bool·not-not, true≢false, false≢true}
 use mathlib.Core.List.{List, [], _∷_, _++_, append-nil, append-assoc}
-use Prim.Native.Nat.{ℕ, zero, suc, _+_, _<_, _≤_, min}
+use Prim.Native.Nat.{ℕ, zero, suc, _+_, _<_, _≤_}
 use native.Mathlib.Omega.{arith}
+use lib.Dec.{ltb}
 use lib.ListN.{length, drop, length-append}
 use lib.Seq.{append-snoc, take-append-seam}
-use borrow.Author.Tests.{lt-ltb, le-leb, ne-eqb}
-use Rattle.numbers.specs.Numbers.{maxSide}
+use borrow.Author.Tests.{ltb-false, lt-ltb, le-leb, ne-eqb}
 use Rattle.channel.specs.declared.Channel.{Channel}
-use Rattle.channel.specs.Channel.{isMeta, shiftsAllowed}
+use Rattle.channel.specs.Channel.{isMeta, shiftsAllowed, sidesFit, isAllowed}
+use Rattle.channel.proofs.Sides.{fit-sides}
 use Rattle.list.specs.declared.ChannelList.{ChannelList}
 use Rattle.list.specs.declared.Step.{Step}
-use Rattle.list.specs.Tables.{table, all}
+use Rattle.list.specs.Tables.{all}
 use Rattle.list.specs.Lists as Lists
-use Rattle.list.specs.Lists.{maxChannels, maxSteps, channelAt, channels, stepped}
+use Rattle.list.specs.Lists.{maxChannels, maxSteps, channels, stepped}
 use Rattle.list.specs.Questions as Q
 use Rattle.list.specs.Questions.{judgeStep, metaFirst}
 use Rattle.list.proofs.MetaFirst.{allowedAfter}
@@ -24,25 +25,35 @@ use Rattle.plan.specs.Steps as S
 use Rattle.plan.specs.Plans as P
 use Rattle.plan.specs.Plans.{judgeSteps, judgeMeant, judgePlan}
 use Rattle.record.specs.declared.Record.{Record}
-use Rattle.record.specs.Bytes.{headLength, channelField, stepField, channelFields, stepFields, recordOf, channelSize, stepSize}
-use Rattle.record.specs.Reading.{fieldChannel, fieldStep, fieldInside, isChannel, isStep, channelAllowed, judgeChannelField, judgeStepField, judgeField, readFields, formOf}
+use Rattle.record.specs.Bytes.{headLength, maxShortSide, isStrip, shortField, stripField, channelField, stepField, channelFields, stepFields, recordOf}
+use Rattle.record.specs.Reading.{fieldSize, fieldChannel, fieldStep, fieldInside, hasHead, isChannel, isStep, channelAllowed, tagAllowed, judgeChannelField, judgeStepField, judgeField, answerOf, readFields, formOf}
 use Rattle.record.specs.Records.{readAnswer, readOf, recordFor}
-use Rattle.record.specs.Laws.{SidesFit, ReadWritten, ReadWrittenLaw}
+use Rattle.record.specs.Laws.{ReadWritten, ReadWrittenLaw}
+use Rattle.record.proofs.Fields.{judged-inside}
 use Rattle.record.proofs.Flags.{flags-allowed, flags-back}
-use Rattle.record.proofs.Words.{word-back}
+use Rattle.record.proofs.Words.{word-back, long-back}
 use Rattle.record.proofs.Pushed.{metas-pushed}
-use Rattle.record.proofs.Joined.{channel-size, step-size}
+use Rattle.record.proofs.Joined.{channel-within, step-size}
 use Rattle.plan.proofs.Runs.{none-refused}
 use Rattle.plan.proofs.Judged.{judged-parts, judged-list, steps-few}
 use Rattle.record.proofs.Judged.{judged-packed}
 use Rattle.record.proofs.Outcomes.{written-length, written-bytes}
 
 -- ---- one field, and `rest` after it
+is-inside : (bytes : List ℕ) → headLength ≤ length bytes → fieldSize bytes ≤ length bytes → fieldInside bytes ≡ true
+unfolding fieldInside
+is-inside bytes h m = rw (le-leb headLength (length bytes) h, le-leb (fieldSize bytes) (length bytes) m)
+
+-- a field that is refused nothing
+field-turn : (bytes rest : List ℕ) (cs : List Channel) (ss : List Step) → answerOf bytes cs ss ≡ 0 → drop (fieldSize bytes) bytes ≡ rest → (turns : ℕ)
+    → readFields (suc turns) bytes cs ss
+    ≡ cond (isStep bytes) (readFields turns rest cs (ss ++ fieldStep bytes ∷ [])) (readFields turns rest (cs ++ fieldChannel bytes ∷ []) ss)
+field-turn bytes rest cs ss z e turns =
+    let n : length bytes ≡ 0 → ⊥ = λ k. omega (arith, judged-inside bytes _ _ _ z .0) in
+    rw (ne-eqb (length bytes) 0 n, z, e)
+
 abbrev StepFits : Step → Type 0
 StepFits s = (s .begin < 65536) × (s .number < 65536)
-
-abbrev ChannelFits : Channel → Type 0
-ChannelFits c = (c .width ≤ maxSide) × (c .height ≤ maxSide)
 
 module _ (s : Step) (rest : List ℕ) (fits : StepFits s) where
   step-read : fieldStep (stepField s ++ rest) ≡ s
@@ -52,61 +63,98 @@ module _ (s : Step) (rest : List ℕ) (fits : StepFits s) where
       let n = word-back (s .number) (fits .1) in
       λ i. record { horizontal = flags-back s .0 i; inplace = flags-back s .1 i; begin = b i; number = n i }
 
-  step-judged : (channels : ℕ) (metas : Bool) (steps : ℕ) → steps < maxSteps → judgeField (stepField s ++ rest) channels metas steps ≡ 0
-  unfolding stepField judgeField fieldInside isChannel isStep judgeStepField
-  step-judged channels metas steps h =
-      let l : headLength ≤ length (stepField s ++ rest) = omega arith in
-      let m : stepSize ≤ length (stepField s ++ rest) = omega arith in
-      rw (le-leb headLength (length (stepField s ++ rest)) l, le-leb stepSize (length (stepField s ++ rest)) m, lt-ltb steps maxSteps h, flags-allowed s)
-
-  step-some : length (stepField s ++ rest) ≡ 0 → ⊥
-  unfolding stepField
-  step-some e = omega arith
-
   step-known : isStep (stepField s ++ rest) ≡ true
-  unfolding stepField isStep
+  unfolding stepField hasHead isStep
   step-known = refl
 
-  step-rest : drop stepSize (stepField s ++ rest) ≡ rest
+  step-judged : (channels : ℕ) (metas : Bool) (steps : ℕ) → steps < maxSteps → judgeField (stepField s ++ rest) channels metas steps ≡ 0
+  unfolding stepField judgeField judgeStepField
+  step-judged channels metas steps h =
+      rw (is-inside (stepField s ++ rest) (omega arith) (omega arith), step-known, or-true (isChannel (stepField s ++ rest) steps), lt-ltb steps maxSteps h, flags-allowed s)
+
+  step-rest : drop (fieldSize (stepField s ++ rest)) (stepField s ++ rest) ≡ rest
   unfolding stepField
   step-rest = refl
 
   step-turn : (turns : ℕ) (cs : List Channel) (ss : List Step) → length ss < maxSteps
       → readFields (suc turns) (stepField s ++ rest) cs ss ≡ readFields turns rest cs (ss ++ s ∷ [])
   step-turn turns cs ss h =
-      rw (ne-eqb (length (stepField s ++ rest)) 0 step-some, step-judged (length cs) (all isMeta cs) (length ss) h, step-known, step-rest, step-read)
+      field-turn (stepField s ++ rest) rest cs ss (step-judged (length cs) (all isMeta cs) (length ss) h) step-rest turns ∙ rw (step-known, step-read)
 
-module _ (c : Channel) (rest : List ℕ) (fits : ChannelFits c) where
-  channel-read : fieldChannel (channelField c ++ rest) ≡ c
+-- bytes that begin with a field of the channel c, of either kind
+record Reads (c : Channel) (bytes rest : List ℕ) : Type 0 where
+  inside-is : fieldInside bytes ≡ true
+  known : isChannel bytes 0 ≡ true
+  other : isStep bytes ≡ false
+  read : fieldChannel bytes ≡ c
+  tag : tagAllowed bytes ≡ true
+  rest-is : drop (fieldSize bytes) bytes ≡ rest
+
+module _ (c : Channel) (rest : List ℕ) where
+  short-sides : isStrip c ≡ false → (c .width < 65536) × (c .height < 65536)
+  unfolding isStrip
+  short-sides s = go (ltb maxShortSide (c .width)) refl s
+    where
+      go : (t : Bool) → ltb maxShortSide (c .width) ≡ t → (t || ltb maxShortSide (c .height)) ≡ false → (c .width < 65536) × (c .height < 65536)
+      go true e k = absurd (true≢false k)
+      go false e k = (omega (arith, ltb-false maxShortSide (c .width) e), omega (arith, ltb-false maxShortSide (c .height) k))
+
+  short-reads : isStrip c ≡ false → Reads c (shortField c ++ rest) rest
+  unfolding shortField hasHead isChannel isStep fieldChannel tagAllowed
+  short-reads s =
+      let f = short-sides s in
+      let w = word-back (c .width) (f .0) in
+      let h = word-back (c .height) (f .1) in
+      record {
+        inside-is = is-inside (shortField c ++ rest) (omega arith) (omega arith);
+        known = refl;
+        other = refl;
+        read = λ i. record { width = w i; height = h i; hshift = c .hshift; vshift = c .vshift };
+        tag = refl;
+        rest-is = refl;
+      }
+
+  strip-reads : isStrip c ≡ true → sidesFit c ≡ true → Reads c (stripField c ++ rest) rest
+  unfolding stripField hasHead isChannel isStep fieldChannel tagAllowed
+  strip-reads s a =
+      let f = fit-sides c a in
+      let w = long-back (c .width) (omega arith) in
+      let h = long-back (c .height) (omega arith) in
+      let r : fieldChannel (stripField c ++ rest) ≡ c = λ i. record { width = w i; height = h i; hshift = c .hshift; vshift = c .vshift } in
+      record {
+        inside-is = is-inside (stripField c ++ rest) (omega arith) (omega arith);
+        known = refl;
+        other = refl;
+        read = r;
+        tag = ap isStrip r ∙ s;
+        rest-is = refl;
+      }
+
+  channel-reads : sidesFit c ≡ true → Reads c (channelField c ++ rest) rest
   unfolding channelField
-  channel-read =
-      let w = word-back (c .width) (omega (arith, fits .0)) in
-      let h = word-back (c .height) (omega (arith, fits .1)) in
-      λ i. record { width = w i; height = h i; hshift = c .hshift; vshift = c .vshift }
+  channel-reads a = go (isStrip c) refl
+    where
+      go : (t : Bool) → isStrip c ≡ t → Reads c (cond t (stripField c) (shortField c) ++ rest) rest
+      go true e = strip-reads e a
+      go false e = short-reads e
+
+  allowed-sides : (metas : Bool) → channelAllowed c metas ≡ true → sidesFit c ≡ true
+  unfolding channelAllowed isAllowed
+  allowed-sides metas a =
+      let b = and-eq-true-iff (shiftsAllowed c && sidesFit c) (not (isMeta c) || metas) .0 a in
+      and-eq-true-iff (shiftsAllowed c) (sidesFit c) .0 (b .0) .1
 
   channel-judged : (channels : ℕ) (metas : Bool) → channels < maxChannels → channelAllowed c metas ≡ true → judgeField (channelField c ++ rest) channels metas 0 ≡ 0
-  unfolding channelField judgeField fieldInside isChannel isStep judgeChannelField
+  unfolding judgeField judgeChannelField
   channel-judged channels metas h a =
-      let l : headLength ≤ length (channelField c ++ rest) = omega arith in
-      let m : channelSize ≤ length (channelField c ++ rest) = omega arith in
-      rw (le-leb headLength (length (channelField c ++ rest)) l, le-leb channelSize (length (channelField c ++ rest)) m, lt-ltb channels maxChannels h, channel-read, a)
-
-  channel-some : length (channelField c ++ rest) ≡ 0 → ⊥
-  unfolding channelField
-  channel-some e = omega arith
-
-  channel-known : isStep (channelField c ++ rest) ≡ false
-  unfolding channelField isStep
-  channel-known = refl
-
-  channel-rest : drop channelSize (channelField c ++ rest) ≡ rest
-  unfolding channelField
-  channel-rest = refl
+      let r = channel-reads (allowed-sides metas a) in
+      rw (r .inside-is, r .known, r .other, lt-ltb channels maxChannels h, r .read, a, r .tag)
 
   channel-turn : (turns : ℕ) (cs : List Channel) → length cs < maxChannels → channelAllowed c (all isMeta cs) ≡ true
       → readFields (suc turns) (channelField c ++ rest) cs [] ≡ readFields turns rest (cs ++ c ∷ []) []
   channel-turn turns cs h a =
-      rw (ne-eqb (length (channelField c ++ rest)) 0 channel-some, channel-judged (length cs) (all isMeta cs) h a, channel-known, channel-rest, channel-read)
+      let r = channel-reads (allowed-sides (all isMeta cs) a) in
+      field-turn (channelField c ++ rest) rest cs [] (channel-judged (length cs) (all isMeta cs) h a) (r .rest-is) turns ∙ rw (r .other, r .read)
 
 -- ---- the fields of a record
 abbrev Each {ℓ} : {A : Type ℓ} → (A → Type 0) → List A → Type 0
@@ -134,42 +182,34 @@ allowed-first true true false x n f h = (refl, h)
 allowed-first false true true x n f h = (refl, h)
 allowed-first false true false x n f h = (refl, h)
 
-not-not : (b : Bool) → not (not b) ≡ b
-not-not true = refl
-not-not false = refl
-
 module _ (done : List Channel) (c : Channel) (cs : List Channel) (h : allowedAfter (not (all isMeta done)) (c ∷ cs) ≡ true) where
   first : (channelAllowed c (all isMeta done) ≡ true) × (allowedAfter (not (isMeta c)) cs ≡ true)
   unfolding channelAllowed
-  first = rw not-not at (allowed-first (not (all isMeta done)) (shiftsAllowed c) (isMeta c) (all shiftsAllowed cs) (all (λ d. not (isMeta d)) cs) (metaFirst cs) h)
+  first = rw Bool·not-not at (allowed-first (not (all isMeta done)) (isAllowed c) (isMeta c) (all isAllowed cs) (all (λ d. not (isMeta d)) cs) (metaFirst cs) h)
 
   after : allowedAfter (not (all isMeta (done ++ c ∷ []))) cs ≡ true
   after = rw (← metas-pushed done c (first .0)) (first .1)
 
 channels-read : (turns : ℕ) (done cs : List Channel) (ss : List Step) → 1 ≤ length done + length cs → length done + length cs ≤ maxChannels → length ss ≤ maxSteps
-    → allowedAfter (not (all isMeta done)) cs ≡ true → Each ChannelFits cs → Each StepFits ss → length (channelFields cs ++ stepFields ss) ≤ turns
+    → allowedAfter (not (all isMeta done)) cs ≡ true → Each StepFits ss → length (channelFields cs ++ stepFields ss) ≤ turns
     → readFields turns (channelFields cs ++ stepFields ss) done [] ≡ record { answer = 0; channels = done ++ cs; steps = ss }
-channels-read turns done [] ss some few short a fc fs l = steps-read turns done [] ss (omega arith) (omega arith) fs l ∙ rw (append-nil done)
-channels-read zero done (c ∷ cs) ss some few short a fc fs l =
-    absurd (omega (arith, length-append (channelField c ++ channelFields cs) (stepFields ss), length-append (channelField c) (channelFields cs), channel-size c))
-channels-read (suc turns) done (c ∷ cs) ss some few short a fc fs l =
+channels-read turns done [] ss some few short a fs l = steps-read turns done [] ss (omega arith) (omega arith) fs l ∙ rw (append-nil done)
+channels-read zero done (c ∷ cs) ss some few short a fs l =
+    absurd (omega (arith, length-append (channelField c ++ channelFields cs) (stepFields ss), length-append (channelField c) (channelFields cs), channel-within c .0))
+channels-read (suc turns) done (c ∷ cs) ss some few short a fs l =
     rw (append-assoc (channelField c) (channelFields cs) (stepFields ss))
-    (channel-turn c (channelFields cs ++ stepFields ss) (fc .0) turns done (omega arith) (first done c cs a .0)
-    ∙ channels-read turns (done ++ c ∷ []) cs ss (omega (arith, length-append done (c ∷ []))) (omega (arith, length-append done (c ∷ []))) short (after done c cs a) (fc .1) fs
+    (channel-turn c (channelFields cs ++ stepFields ss) turns done (omega arith) (first done c cs a .0)
+    ∙ channels-read turns (done ++ c ∷ []) cs ss (omega (arith, length-append done (c ∷ []))) (omega (arith, length-append done (c ∷ []))) short (after done c cs a) fs
     (omega (
       arith,
       length-append (channelField c ++ channelFields cs) (stepFields ss),
       length-append (channelField c) (channelFields cs),
       length-append (channelFields cs) (stepFields ss),
-      channel-size c,
+      channel-within c .0,
     ))
     ∙ rw (append-snoc done c cs))
 
 -- ---- a list and steps that the writer accepts
-each-entry {ℓ} : {A : Type ℓ} (P : A → Type 0) (f : ℕ → A) → ((k : ℕ) → P (f k)) → (k n : ℕ) → Each P (table f k n)
-each-entry P f h k zero = tt
-each-entry P f h k (suc n) = (h k, each-entry P f h (suc k) n)
-
 -- questions 7 and 11 bound a step's range
 steps-fit : (ss : List Step) (cs : List Channel) → judgeSteps ss cs ≡ 0 → Each StepFits ss
 steps-fit [] cs h = tt
@@ -183,16 +223,12 @@ unfolding P.judgeMeant P.meantAllowed P.meant
 meant-fit [] cs h = tt
 meant-fit (s ∷ ss) cs h = steps-fit (s ∷ ss) cs h
 
-module _ (l : ChannelList) (s : Steps) (sides : SidesFit l) (h : judgePlan l s ≡ 0) where
-  channels-fit : Each ChannelFits (channels l)
-  unfolding Lists.channels
-  channels-fit = each-entry ChannelFits (channelAt l) sides 0 (min (l .count) maxChannels)
-
+module _ (l : ChannelList) (s : Steps) (h : judgePlan l s ≡ 0) where
   form-is : formOf (recordFor l s) ≡ record { answer = 0; channels = channels l; steps = S.steps s }
   unfolding formOf recordOf Q.channelsAllowed
   form-is =
       let a = list-accepted l (judged-list l s h) in
-      channels-read (length (recordFor l s)) [] (channels l) (S.steps s) (omega (arith, a .some)) (omega (arith, a .few)) (steps-few l s h) (a .allowed) channels-fit
+      channels-read (length (recordFor l s)) [] (channels l) (S.steps s) (omega (arith, a .some)) (omega (arith, a .few)) (steps-few l s h) (a .allowed)
       (meant-fit (S.steps s) (channels l) (judged-parts l s h .1)) (omega arith)
 
   read-is : readOf (recordFor l s) ≡ record { answer = 0; list = Lists.packed (channels l); steps = S.packed (S.steps s) }

@@ -3,13 +3,14 @@
 use mathlib.Core.Path.{_≡_, refl, sym, ap, _∙_}
 use mathlib.Core.Bool.{Bool, true, false}
 use mathlib.Core.List.{List}
-use Prim.Native.Nat.{ℕ}
+use Prim.Native.Nat.{ℕ, _≤_}
 use native.Mathlib.Omega.{arith}
 use lib.Dec.{eqb}
+use lib.ListN.{length}
 use borrow.Author.Tests.{eqb-true}
 use Rattle.list.specs.declared.ChannelList.{ChannelList}
 use Rattle.list.specs.Lists as Lists
-use Rattle.list.specs.Lists.{channels}
+use Rattle.list.specs.Lists.{maxSteps, channels}
 use Rattle.list.specs.Accepted.{Accepted}
 use Rattle.list.proofs.Packed.{channels-packed}
 use Rattle.list.proofs.Acceptance.{list-accepted}
@@ -19,6 +20,7 @@ use Rattle.plan.specs.Plans.{judgePlan, judgeSteps}
 use Rattle.plan.proofs.Runs.{none-refused}
 use Rattle.plan.proofs.Packed.{packed-count, steps-packed}
 use Rattle.plan.proofs.Judged.{judged-list, judged-counts, meant-judged}
+use Rattle.plan.proofs.Longest.{meant-few}
 use Rattle.record.specs.declared.Record.{Record}
 use Rattle.record.specs.Reading.{formOf}
 use Rattle.record.specs.Records as R
@@ -70,6 +72,11 @@ module _ (bytes : List ℕ) (z : readAnswer bytes ≡ 0) where
   channels-accepted =
       rw (list-back bytes (readOf bytes) refl read-ok) at
       (list-accepted (readOf bytes .list) (judged-list (readOf bytes .list) (readOf bytes .steps) (read-judged bytes (readOf bytes) refl read-ok)))
+
+  pub steps-few : length (stepsOf bytes) ≤ maxSteps
+  steps-few =
+      rw (list-back bytes (readOf bytes) refl read-ok, steps-back bytes (readOf bytes) refl read-ok) at
+      (meant-few (readOf bytes .list) (readOf bytes .steps) (read-judged bytes (readOf bytes) refl read-ok))
 
   pub steps-judged : judgeSteps (stepsOf bytes) (channelsOf bytes) ≡ 0
   steps-judged =

@@ -19,11 +19,11 @@ use Rattle.plan.specs.Steps as S
 use Rattle.plan.specs.Plans.{judgePlan}
 use Rattle.plan.proofs.Packed.{packed-count, steps-packed}
 use Rattle.record.specs.declared.Record.{Record}
-use Rattle.record.specs.Bytes.{channelField, stepField, channelFields, stepFields, recordOf, channelSize, stepSize}
-use Rattle.record.specs.Reading.{Form, asked, fieldChannel, fieldStep, isStep, finished, answerOf, readFields, formOf}
+use Rattle.record.specs.Bytes.{channelField, stepField, channelFields, stepFields, recordOf}
+use Rattle.record.specs.Reading.{Form, asked, fieldSize, fieldChannel, fieldStep, isStep, finished, answerOf, readFields, formOf}
 use Rattle.record.specs.Records.{readAnswer, readOf, recordFor, writeAnswer}
 use Rattle.record.specs.Laws.{AreBytes, WrittenRead, WrittenReadLaw, OneRecord}
-use Rattle.record.proofs.Fields.{is-step, is-channel}
+use Rattle.record.proofs.Fields.{judged-inside, is-step, is-channel}
 use Rattle.record.proofs.Words.{step-bytes, channel-bytes}
 use Rattle.plan.proofs.Runs.{none-refused}
 use Rattle.plan.proofs.Judged.{judged-counts}
@@ -56,23 +56,23 @@ finished-gives cs ss bytes h = rw (none bytes h, append-nil) (go (leb 1 (length 
 
 module _ (bytes : List ℕ) (b : AreBytes bytes) (cs : List Channel) (ss : List Step) where
   step-next : answerOf bytes cs ss ≡ 0 → isStep bytes ≡ true
-      → recordOf cs (ss ++ fieldStep bytes ∷ []) ++ drop stepSize bytes ≡ recordOf cs ss ++ bytes
+      → recordOf cs (ss ++ fieldStep bytes ∷ []) ++ drop (fieldSize bytes) bytes ≡ recordOf cs ss ++ bytes
   unfolding recordOf
   step-next h t =
       rw (joined-snoc stepField ss (fieldStep bytes))
-      (simp append-assoc (ap (λ (l : List ℕ). channelFields cs ++ (stepFields ss ++ l)) (sym (step-bytes bytes b _ (is-step bytes _ _ _ h t)))))
+      (simp append-assoc (ap (λ (l : List ℕ). channelFields cs ++ (stepFields ss ++ l)) (sym (step-bytes bytes b _ (judged-inside bytes _ _ _ h .1) (is-step bytes _ _ _ h t)))))
 
   channel-next : answerOf bytes cs ss ≡ 0 → isStep bytes ≡ false
-      → recordOf (cs ++ fieldChannel bytes ∷ []) ss ++ drop channelSize bytes ≡ recordOf cs ss ++ bytes
+      → recordOf (cs ++ fieldChannel bytes ∷ []) ss ++ drop (fieldSize bytes) bytes ≡ recordOf cs ss ++ bytes
   unfolding recordOf
   channel-next h t =
       let f = is-channel bytes _ _ _ h t in
       rw (none ss (omega (arith, f .first)), joined-snoc channelField cs (fieldChannel bytes))
-      (simp (append-assoc, append-nil) (ap (λ (l : List ℕ). channelFields cs ++ l) (sym (channel-bytes bytes b _ _ _ f))))
+      (simp (append-assoc, append-nil) (ap (λ (l : List ℕ). channelFields cs ++ l) (sym (channel-bytes bytes b (judged-inside bytes _ _ _ h .1) _ _ _ f))))
 
   turn-gives : (x y : Form)
-      → Gives (recordOf cs (ss ++ fieldStep bytes ∷ []) ++ drop stepSize bytes) x
-      → Gives (recordOf (cs ++ fieldChannel bytes ∷ []) ss ++ drop channelSize bytes) y
+      → Gives (recordOf cs (ss ++ fieldStep bytes ∷ []) ++ drop (fieldSize bytes) bytes) x
+      → Gives (recordOf (cs ++ fieldChannel bytes ∷ []) ss ++ drop (fieldSize bytes) bytes) y
       → Gives (recordOf cs ss ++ bytes)
       (cond (eqb (length bytes) 0) (finished cs ss) (asked (eqb (answerOf bytes cs ss) 0) (answerOf bytes cs ss) (cond (isStep bytes) x y)))
   turn-gives x y gx gy = go (eqb (length bytes) 0) refl
@@ -86,16 +86,16 @@ module _ (bytes : List ℕ) (b : AreBytes bytes) (cs : List Channel) (ss : List 
       go true e = finished-gives cs ss bytes (omega (arith, eqb-true (length bytes) 0 e))
       go false e = asked-gives (recordOf cs ss ++ bytes) (answerOf bytes cs ss) _ (kind (isStep bytes) refl)
 
-dropped : (bytes : List ℕ) (n : ℕ) → AreBytes bytes → AreBytes (drop n bytes)
+pub dropped : (bytes : List ℕ) (n : ℕ) → AreBytes bytes → AreBytes (drop n bytes)
 dropped bytes n b k = rw (getD-drop n bytes k 0) (b (n + k))
 
 fields-give : (turns : ℕ) (bytes : List ℕ) (cs : List Channel) (ss : List Step) → AreBytes bytes → length bytes ≤ turns
     → Gives (recordOf cs ss ++ bytes) (readFields turns bytes cs ss)
 fields-give zero bytes cs ss b l = finished-gives cs ss bytes l
 fields-give (suc turns) bytes cs ss b l =
-    turn-gives bytes b cs ss _ _
-    (fields-give turns _ cs _ (dropped bytes stepSize b) (omega (arith, length-drop stepSize bytes)))
-    (fields-give turns _ _ ss (dropped bytes channelSize b) (omega (arith, length-drop channelSize bytes)))
+    let d = dropped bytes (fieldSize bytes) b in
+    let m : length (drop (fieldSize bytes) bytes) ≤ turns = omega (arith, length-drop (fieldSize bytes) bytes) in
+    turn-gives bytes b cs ss _ _ (fields-give turns _ cs _ d m) (fields-give turns _ _ ss d m)
 
 form-back : (bytes : List ℕ) → AreBytes bytes → formOf bytes .answer ≡ 0 → recordOf (formOf bytes .channels) (formOf bytes .steps) ≡ bytes
 unfolding formOf recordOf

@@ -1,15 +1,16 @@
--- The record's bytes (document 01, "Record"): "Fields of a one-byte tag, a two-byte length and that many bytes; all integers little-endian."
--- The one record of a channel list and its steps. Definitions only.
-use mathlib.Core.Bool.{cond}
+-- The record's bytes (document 01, "Record"; document 02, A.8): "Fields of a one-byte tag, a two-byte length and that many bytes; all integers
+-- little-endian." The one record of a channel list and its steps. Definitions only.
+use mathlib.Core.Bool.{Bool, cond, _||_}
 use mathlib.Core.List.{List, [], _∷_, _++_}
 use Prim.Native.Nat.{ℕ, _+_, _*_, _/_, _%_}
-use lib.Dec.{leb}
+use lib.Dec.{leb, ltb}
 use lib.ListN.{length, take, drop}
 use Rattle.channel.specs.declared.Channel.{Channel}
 use Rattle.list.specs.declared.Step.{Step}
+use Rattle.list.specs.Lists.{maxChannels, maxSteps}
 use Rattle.plan.specs.Steps.{flagsOf}
 
--- "Tag 1, channel, length 6"; "Tag 2, step, length 5"
+-- "Tag 1, channel, length 6"; "Tag 2, step, length 5"; "tag 3, length 10"
 abbrev pub channelTag : ℕ
 channelTag = 1
 
@@ -22,6 +23,12 @@ stepTag = 2
 abbrev pub stepLength : ℕ
 stepLength = 5
 
+abbrev pub stripTag : ℕ
+stripTag = 3
+
+abbrev pub stripLength : ℕ
+stripLength = 10
+
 -- tag and length
 abbrev pub headLength : ℕ
 headLength = 3
@@ -29,6 +36,9 @@ headLength = 3
 -- a field's bytes in all
 abbrev pub channelSize : ℕ
 channelSize = headLength + channelLength
+
+abbrev pub stripSize : ℕ
+stripSize = headLength + stripLength
 
 abbrev pub stepSize : ℕ
 stepSize = headLength + stepLength
@@ -43,11 +53,36 @@ high n = n / 256 % 256
 abbrev pub word : ℕ → ℕ → ℕ
 word l h = l + 256 * h
 
+-- a four-byte number: its upper two bytes are those of this
+abbrev pub upper : ℕ → ℕ
+upper n = n / 65_536
+
+abbrev pub long : ℕ → ℕ → ℕ → ℕ → ℕ
+long a b c d = word a b + 65_536 * word c d
+
+-- "A channel with a side above 65,535 is stored under tag 3"; any other one fits tag 1
+abbrev pub maxShortSide : ℕ
+maxShortSide = 65_535
+
+unfoldable pub isStrip : Channel → Bool
+isStrip c = ltb maxShortSide (c .width) || ltb maxShortSide (c .height)
+
 -- "width 2, height 2, horizontal shift 1, vertical shift 1"
-unfoldable pub channelField : Channel → List ℕ
-channelField c =
+unfoldable pub shortField : Channel → List ℕ
+shortField c =
     channelTag ∷ low channelLength ∷ high channelLength
     ∷ low (c .width) ∷ high (c .width) ∷ low (c .height) ∷ high (c .height) ∷ c .hshift ∷ c .vshift ∷ []
+
+-- "width 4, height 4 and the two shifts"
+unfoldable pub stripField : Channel → List ℕ
+stripField c =
+    stripTag ∷ low stripLength ∷ high stripLength
+    ∷ low (c .width) ∷ high (c .width) ∷ low (upper (c .width)) ∷ high (upper (c .width))
+    ∷ low (c .height) ∷ high (c .height) ∷ low (upper (c .height)) ∷ high (upper (c .height)) ∷ c .hshift ∷ c .vshift ∷ []
+
+-- "A channel that fits tag 1 is always written so"
+unfoldable pub channelField : Channel → List ℕ
+channelField c = cond (isStrip c) (stripField c) (shortField c)
 
 -- "flags 1 (bit 0 horizontal, bit 1 in place), first channel 2, number 2"
 unfoldable pub stepField : Step → List ℕ
@@ -69,6 +104,10 @@ stepFields ss = joined stepField ss
 -- "Channels stand before steps."
 unfoldable pub recordOf : List Channel → List Step → List ℕ
 recordOf cs ss = channelFields cs ++ stepFields ss
+
+-- the most bytes that a record can have: 256 channels, all of them strips, and 64 steps
+abbrev pub recordRoom : ℕ
+recordRoom = stripSize * maxChannels + stepSize * maxSteps
 
 -- a slice with bytes put into it from `at` on, and the same where it has room for them
 abbrev pub placed : List ℕ → ℕ → List ℕ → List ℕ

@@ -3,8 +3,7 @@
 use mathlib.Core.Path.{_≡_}
 use mathlib.Core.List.{List, [], _++_}
 use Prim.Native.Nat.{ℕ, _<_, _≤_}
-use lib.ListN.{length, getD, take, drop}
-use Rattle.numbers.specs.Numbers.{maxSide}
+use lib.ListN.{length, take, drop}
 use Rattle.list.specs.declared.ChannelList.{ChannelList}
 use Rattle.list.specs.Lists as Lists
 use Rattle.list.specs.Lists.{channels}
@@ -15,10 +14,6 @@ use Rattle.plan.specs.Plans.{judgePlan}
 use Rattle.record.specs.Bytes.{recordOf}
 use Rattle.record.specs.Reading.{byteAt, formOf}
 use Rattle.record.specs.Records.{readAnswer, readOf, recordFor, writeAnswer, writtenOf, writtenBytes}
-
--- "width and height (0 to 65,535)"
-abbrev pub SidesFit : ChannelList → Type 0
-SidesFit l = (k : ℕ) → (getD (l .widths) k 0 ≤ maxSide) × (getD (l .heights) k 0 ≤ maxSide)
 
 abbrev pub AreBytes : List ℕ → Type 0
 AreBytes bytes = (k : ℕ) → byteAt bytes k < 256
@@ -38,7 +33,7 @@ pub record WrittenRead (bytes : List ℕ) : Type 0 where
   pub written : (out : List ℕ) → length bytes ≤ length out → writtenBytes (readOf bytes .list) (readOf bytes .steps) out ≡ bytes ++ drop (length bytes) out
 
 abbrev pub ReadWrittenLaw : Type 0
-ReadWrittenLaw = (l : ChannelList) (s : Steps) → SidesFit l → judgePlan l s ≡ 0 → ReadWritten l s
+ReadWrittenLaw = (l : ChannelList) (s : Steps) → judgePlan l s ≡ 0 → ReadWritten l s
 
 abbrev pub WrittenReadLaw : Type 0
 WrittenReadLaw = (bytes : List ℕ) → AreBytes bytes → readAnswer bytes ≡ 0 → WrittenRead bytes

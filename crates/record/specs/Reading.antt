@@ -1,4 +1,4 @@
--- Reading a record's form (document 01, "The questions" 1 to 4): "In a record, questions 1 to 4 are put field by field", each in its order; "a
+-- Reading a record's form (document 01, "The questions" 1 to 4; document 02, A.8): "In a record, questions 1 to 4 are put field by field", each in its order; "a
 -- field too many is met at that field, a missing channel at the end". Definitions only.
 use mathlib.Core.Bool.{Bool, cond, _&&_, _||_, not}
 use mathlib.Core.List.{List, [], _∷_, _++_}
@@ -7,13 +7,13 @@ use lib.Dec.{eqb, leb, ltb}
 use lib.ListN.{length, getD, drop}
 use Rattle.numbers.specs.Numbers.{refusedOutside, refusedField, refusedCount, refusedForm}
 use Rattle.channel.specs.declared.Channel.{Channel}
-use Rattle.channel.specs.Channel.{isMeta, shiftsAllowed}
+use Rattle.channel.specs.Channel.{isMeta, isAllowed}
 use Rattle.list.specs.declared.Step.{Step}
 use Rattle.list.specs.Tables.{all}
 use Rattle.list.specs.Lists.{maxChannels, maxSteps}
 use Rattle.list.specs.Questions.{ask}
 use Rattle.plan.specs.Steps.{flagsAllowed}
-use Rattle.record.specs.Bytes.{channelTag, channelLength, channelSize, stepTag, stepLength, stepSize, headLength, word}
+use Rattle.record.specs.Bytes.{channelTag, channelLength, stripTag, stripLength, stepTag, stepLength, headLength, word, long, isStrip}
 
 -- what reading the form comes to: 0 with the channels and the steps, or a refusal's number
 pub record Form : Type 0 where
@@ -38,14 +38,33 @@ tagOf bytes = byteAt bytes 0
 abbrev pub lengthOf : List ℕ → ℕ
 lengthOf bytes = word (byteAt bytes 1) (byteAt bytes 2)
 
-abbrev pub fieldChannel : List ℕ → Channel
-fieldChannel bytes =
+-- head and body
+abbrev pub fieldSize : List ℕ → ℕ
+fieldSize bytes = headLength + lengthOf bytes
+
+abbrev pub shortChannel : List ℕ → Channel
+shortChannel bytes =
     record {
       width = word (byteAt bytes 3) (byteAt bytes 4);
       height = word (byteAt bytes 5) (byteAt bytes 6);
       hshift = byteAt bytes 7;
       vshift = byteAt bytes 8;
     }
+
+abbrev pub stripChannel : List ℕ → Channel
+stripChannel bytes =
+    record {
+      width = long (byteAt bytes 3) (byteAt bytes 4) (byteAt bytes 5) (byteAt bytes 6);
+      height = long (byteAt bytes 7) (byteAt bytes 8) (byteAt bytes 9) (byteAt bytes 10);
+      hshift = byteAt bytes 11;
+      vshift = byteAt bytes 12;
+    }
+
+abbrev pub hasStripTag : List ℕ → Bool
+hasStripTag bytes = eqb (tagOf bytes) stripTag
+
+unfoldable pub fieldChannel : List ℕ → Channel
+fieldChannel bytes = cond (hasStripTag bytes) (stripChannel bytes) (shortChannel bytes)
 
 abbrev pub flagsAt : List ℕ → ℕ
 flagsAt bytes = byteAt bytes 3
@@ -62,24 +81,32 @@ fieldStep bytes =
 -- ---- the questions of a field that stands after `channels` channels, all of them meta or not, and `steps` steps
 -- 1. "Does the field's three-byte head, and its stated length, lie inside the bytes?"
 unfoldable pub fieldInside : List ℕ → Bool
-fieldInside bytes = leb headLength (length bytes) && leb (headLength + lengthOf bytes) (length bytes)
+fieldInside bytes = leb headLength (length bytes) && leb (fieldSize bytes) (length bytes)
 
 -- 2. "Is the tag known, the length its own, and no channel after a step?"
+-- A.8: "tag 3 otherwise stands wherever tag 1 may"
+unfoldable pub hasHead : ℕ → ℕ → List ℕ → Bool
+hasHead tag size bytes = eqb (tagOf bytes) tag && eqb (lengthOf bytes) size
+
 unfoldable pub isChannel : List ℕ → ℕ → Bool
-isChannel bytes steps = eqb (tagOf bytes) channelTag && (eqb (lengthOf bytes) channelLength && eqb steps 0)
+isChannel bytes steps = (hasHead channelTag channelLength bytes || hasHead stripTag stripLength bytes) && eqb steps 0
 
 unfoldable pub isStep : List ℕ → Bool
-isStep bytes = eqb (tagOf bytes) stepTag && eqb (lengthOf bytes) stepLength
+isStep bytes = hasHead stepTag stepLength bytes
 
--- 4. a channel's shifts, "meta channels first"
+-- 4. a channel's shifts and sides, "meta channels first"
 unfoldable pub channelAllowed : Channel → Bool → Bool
-channelAllowed c metas = shiftsAllowed c && (not (isMeta c) || metas)
+channelAllowed c metas = isAllowed c && (not (isMeta c) || metas)
+
+-- A.8: "tag 3 for" a channel that fits tag 1 "is refused with 4"
+unfoldable pub tagAllowed : List ℕ → Bool
+tagAllowed bytes = not (hasStripTag bytes) || isStrip (fieldChannel bytes)
 
 -- 3 and 4 of a channel and of a step, with "a field too many"
 unfoldable pub judgeChannelField : List ℕ → ℕ → Bool → ℕ
 judgeChannelField bytes channels metas =
     ask (ltb channels maxChannels) refusedCount
-    (ask (channelAllowed (fieldChannel bytes) metas) refusedForm 0)
+    (ask (channelAllowed (fieldChannel bytes) metas && tagAllowed bytes) refusedForm 0)
 
 unfoldable pub judgeStepField : List ℕ → ℕ → ℕ
 judgeStepField bytes steps =
@@ -108,8 +135,8 @@ readFields (suc turns) bytes cs ss =
     cond (eqb (length bytes) 0) (finished cs ss)
     (asked (eqb (answerOf bytes cs ss) 0) (answerOf bytes cs ss)
     (cond (isStep bytes)
-    (readFields turns (drop (stepSize) bytes) cs (ss ++ (fieldStep bytes ∷ [])))
-    (readFields turns (drop (channelSize) bytes) (cs ++ (fieldChannel bytes ∷ [])) ss)))
+    (readFields turns (drop (fieldSize bytes) bytes) cs (ss ++ (fieldStep bytes ∷ [])))
+    (readFields turns (drop (fieldSize bytes) bytes) (cs ++ (fieldChannel bytes ∷ [])) ss)))
 
 unfoldable pub formOf : List ℕ → Form
 formOf bytes = readFields (length bytes) bytes [] []

@@ -8,6 +8,7 @@ ghost use Rattle.list.specs.Lists.{maxChannels, maxSteps, channels};
 ghost use Rattle.plan.specs.Steps as StepsSpec;
 ghost use Rattle.plan.specs.Adding.{pushed};
 ghost use Rattle.record.specs.Adding.{withChannel};
+ghost use Rattle.record.specs.Inside.{ChannelInside};
 ghost use Rattle.record.specs.Bytes as Bytes;
 ghost use Rattle.record.specs.Reading as Reading;
 ghost use Rattle.record.specs.Records as Spec;
@@ -39,6 +40,13 @@ const CHANNEL_TAG: u8 = 1;
 
 const CHANNEL_LENGTH: u16 = 6;
 
+// A.8: "A channel with a side above 65,535 is stored under tag 3, length 10".
+const STRIP_TAG: u8 = 3;
+
+const STRIP_LENGTH: u16 = 10;
+
+const MAX_SHORT_SIDE: u32 = 65_535;
+
 const STEP_TAG: u8 = 2;
 
 const STEP_LENGTH: u16 = 5;
@@ -48,6 +56,8 @@ const HEAD_LENGTH: usize = 3;
 
 const CHANNEL_SIZE: usize = HEAD_LENGTH + CHANNEL_LENGTH as usize;
 
+const STRIP_SIZE: usize = HEAD_LENGTH + STRIP_LENGTH as usize;
+
 const STEP_SIZE: usize = HEAD_LENGTH + STEP_LENGTH as usize;
 
 // A two-byte number, least byte first.
@@ -55,6 +65,13 @@ fn word(low: u8, high: u8) -> u16
     ensures { λ r. ⌜ r ≡ Bytes.word low high ⌝ }
 {
     low as u16 + 256 * (high as u16)
+}
+
+// A four-byte number, least byte first.
+fn long(a: u8, b: u8, c: u8, d: u8) -> u32
+    ensures { λ r. ⌜ r ≡ Bytes.long a b c d ⌝ }
+{
+    word(a, b) as u32 + 65_536 * (word(c, d) as u32)
 }
 
 // The length that a field states.
@@ -75,12 +92,21 @@ fn field_inside(bytes: &[u8]) -> bool
     HEAD_LENGTH + stated_length(bytes) as usize <= bytes.len()
 }
 
+// Question 2: a tag and its own length.
+fn has_head(tag: u8, size: u16, bytes: &[u8]) -> bool
+    requires { ⌜ Bytes.headLength ≤ length (now bytes) ⌝ }
+    ensures { λ r. ⌜ r ≡ Reading.hasHead tag size (now (bytes .entry)) ⌝ }
+{
+    (bytes[0] == tag) & (stated_length(bytes) == size)
+}
+
 // Question 2, of a channel after so many steps.
 fn is_channel(bytes: &[u8], steps: usize) -> bool
     requires { ⌜ Bytes.headLength ≤ length (now bytes) ⌝ }
     ensures { λ r. ⌜ r ≡ Reading.isChannel (now (bytes .entry)) steps ⌝ }
 {
-    (bytes[0] == CHANNEL_TAG) & (stated_length(bytes) == CHANNEL_LENGTH) & (steps == 0)
+    (has_head(CHANNEL_TAG, CHANNEL_LENGTH, bytes) | has_head(STRIP_TAG, STRIP_LENGTH, bytes))
+        & (steps == 0)
 }
 
 // Question 2, of a step.
@@ -88,33 +114,65 @@ fn is_step(bytes: &[u8]) -> bool
     requires { ⌜ Bytes.headLength ≤ length (now bytes) ⌝ }
     ensures { λ r. ⌜ r ≡ Reading.isStep (now (bytes .entry)) ⌝ }
 {
-    (bytes[0] == STEP_TAG) & (stated_length(bytes) == STEP_LENGTH)
+    has_head(STEP_TAG, STEP_LENGTH, bytes)
 }
 
-// A field's channel.
-fn field_channel(bytes: &[u8]) -> Channel
+// A channel under tag 1, and under tag 3.
+fn short_channel(bytes: &[u8]) -> Channel
     requires { ⌜ Bytes.channelSize ≤ length (now bytes) ⌝ }
-    ensures { λ r. ⌜ r ≡ Reading.fieldChannel (now (bytes .entry)) ⌝ }
+    ensures { λ r. ⌜ r ≡ Reading.shortChannel (now (bytes .entry)) ⌝ }
 {
     Channel {
-        width: word(bytes[3], bytes[4]),
-        height: word(bytes[5], bytes[6]),
+        width: word(bytes[3], bytes[4]) as u32,
+        height: word(bytes[5], bytes[6]) as u32,
         hshift: bytes[7],
         vshift: bytes[8],
     }
 }
 
+fn strip_channel(bytes: &[u8]) -> Channel
+    requires { ⌜ Bytes.stripSize ≤ length (now bytes) ⌝ }
+    ensures { λ r. ⌜ r ≡ Reading.stripChannel (now (bytes .entry)) ⌝ }
+{
+    Channel {
+        width: long(bytes[3], bytes[4], bytes[5], bytes[6]),
+        height: long(bytes[7], bytes[8], bytes[9], bytes[10]),
+        hshift: bytes[11],
+        vshift: bytes[12],
+    }
+}
+
+// A field's channel.
+fn field_channel(bytes: &[u8]) -> Channel
+    requires { ⌜ ChannelInside (now bytes) ⌝ }
+    ensures { λ r. ⌜ r ≡ Reading.fieldChannel (now (bytes .entry)) ⌝ }
+{
+    if bytes[0] == STRIP_TAG {
+        strip_channel(bytes)
+    } else {
+        short_channel(bytes)
+    }
+}
+
+// Whether a channel has a side that tag 1 can't hold.
+fn is_strip(c: Channel) -> bool
+    ensures { λ r. ⌜ r ≡ Bytes.isStrip c ⌝ }
+{
+    (MAX_SHORT_SIDE < c.width) | (MAX_SHORT_SIDE < c.height)
+}
+
 // Questions 3 and 4, of a channel after so many channels, all of them meta or
 // not.
 fn judge_channel(bytes: &[u8], channels: usize, metas: bool) -> u32
-    requires { ⌜ Bytes.channelSize ≤ length (now bytes) ⌝ }
+    requires { ⌜ ChannelInside (now bytes) ⌝ }
     ensures { λ r. ⌜ r ≡ Reading.judgeChannelField (now (bytes .entry)) channels metas ⌝ }
 {
     if ChannelList::MAX_CHANNELS <= channels {
         return REFUSED_COUNT;
     }
     let c = field_channel(bytes);
-    if !(c.has_shifts_allowed() & (!c.is_meta() | metas)) {
+    let allowed = c.is_allowed() & (!c.is_meta() | metas);
+    if !(allowed & ((bytes[0] != STRIP_TAG) | is_strip(c))) {
         return REFUSED_FORM;
     }
     0
@@ -208,13 +266,12 @@ pub fn read_form(bytes: &[u8]) -> Record
         }
         if is_step(field) {
             steps = with_step(steps, field);
-            at += STEP_SIZE;
         } else {
             let c = field_channel(field);
             metas = c.is_meta();
             list = with_channel(list, c);
-            at += CHANNEL_SIZE;
         }
+        at += HEAD_LENGTH + stated_length(field) as usize;
     }
     if list.count == 0 {
         return refused(REFUSED_COUNT);
@@ -241,31 +298,59 @@ pub fn read_record(bytes: &[u8]) -> Record
     form
 }
 
-// The two bytes of a number, least byte first.
-fn low(n: u16) -> u8
+// The lower two bytes of a number, least byte first; a longer one's upper two are
+// those of `upper`.
+fn low(n: u32) -> u8
     ensures { λ r. ⌜ r ≡ Bytes.low n ⌝ }
 {
     (n % 256) as u8
 }
 
-fn high(n: u16) -> u8
+fn high(n: u32) -> u8
     ensures { λ r. ⌜ r ≡ Bytes.high n ⌝ }
 {
-    (n / 256) as u8
+    (n / 256 % 256) as u8
+}
+
+fn upper(n: u32) -> u32
+    ensures { λ r. ⌜ r ≡ Bytes.upper n ⌝ }
+{
+    n / 65_536
 }
 
 // "width 2, height 2, horizontal shift 1, vertical shift 1".
-fn channel_field(c: Channel) -> [u8; CHANNEL_SIZE]
-    ensures { λ r. ⌜ r ≡ Bytes.channelField c ⌝ }
+fn short_field(c: Channel) -> [u8; CHANNEL_SIZE]
+    ensures { λ r. ⌜ r ≡ Bytes.shortField c ⌝ }
 {
     [
         CHANNEL_TAG,
-        low(CHANNEL_LENGTH),
-        high(CHANNEL_LENGTH),
+        low(CHANNEL_LENGTH as u32),
+        high(CHANNEL_LENGTH as u32),
         low(c.width),
         high(c.width),
         low(c.height),
         high(c.height),
+        c.hshift,
+        c.vshift,
+    ]
+}
+
+// "width 4, height 4 and the two shifts".
+fn strip_field(c: Channel) -> [u8; STRIP_SIZE]
+    ensures { λ r. ⌜ r ≡ Bytes.stripField c ⌝ }
+{
+    [
+        STRIP_TAG,
+        low(STRIP_LENGTH as u32),
+        high(STRIP_LENGTH as u32),
+        low(c.width),
+        high(c.width),
+        low(upper(c.width)),
+        high(upper(c.width)),
+        low(c.height),
+        high(c.height),
+        low(upper(c.height)),
+        high(upper(c.height)),
         c.hshift,
         c.vshift,
     ]
@@ -277,13 +362,13 @@ fn step_field(step: Step) -> [u8; STEP_SIZE]
 {
     [
         STEP_TAG,
-        low(STEP_LENGTH),
-        high(STEP_LENGTH),
+        low(STEP_LENGTH as u32),
+        high(STEP_LENGTH as u32),
         plan::flags_of(step),
-        low(step.begin),
-        high(step.begin),
-        low(step.number),
-        high(step.number),
+        low(step.begin as u32),
+        high(step.begin as u32),
+        low(step.number as u32),
+        high(step.number as u32),
     ]
 }
 
@@ -302,6 +387,40 @@ pub fn put_bytes(bytes: &[u8], at: usize, out: &mut [u8])
     }
 }
 
+// A channel's field into `out` from `at` on, and where it ends.
+fn put_channel(c: Channel, at: usize, out: &mut [u8]) -> usize
+    requires { ⌜ at + length (Bytes.channelField c) ≤ length (now out) ⌝ }
+    ensures { λ r. ⌜ (r ≡ at + length (Bytes.channelField c)) × (now (out .exit) ≡ Bytes.placed (now (out .entry)) at (Bytes.channelField c)) ⌝ }
+{
+    if is_strip(c) {
+        let field = strip_field(c);
+        put_bytes(&field, at, out);
+        at + STRIP_SIZE
+    } else {
+        let field = short_field(c);
+        put_bytes(&field, at, out);
+        at + CHANNEL_SIZE
+    }
+}
+
+// The bytes of the channels' fields.
+fn channels_size(list: ChannelList) -> usize
+    requires { ⌜ list .count ≤ maxChannels ⌝ }
+    ensures { λ r. ⌜ r ≡ length (Bytes.channelFields (channels list)) ⌝ }
+{
+    let count = list.count;
+    let mut size = 0;
+    for k in 0..count {
+        let c = entry_of(&list.widths, &list.heights, &list.hshifts, &list.vshifts, k);
+        size += if is_strip(c) {
+            STRIP_SIZE
+        } else {
+            CHANNEL_SIZE
+        };
+    }
+    size
+}
+
 // The channels' fields, from the beginning of `out` on.
 fn write_channels(list: ChannelList, out: &mut [u8])
     requires { ⌜ (list .count ≤ maxChannels) × (length (Bytes.channelFields (channels list)) ≤ length (now out)) ⌝ }
@@ -311,9 +430,7 @@ fn write_channels(list: ChannelList, out: &mut [u8])
     let mut at = 0;
     for k in 0..count {
         let c = entry_of(&list.widths, &list.heights, &list.hshifts, &list.vshifts, k);
-        let field = channel_field(c);
-        put_bytes(&field, at, out);
-        at += CHANNEL_SIZE;
+        at = put_channel(c, at, out);
     }
 }
 
@@ -339,7 +456,7 @@ pub fn write_record(list: ChannelList, steps: Steps, out: &mut [u8]) -> Written
     if answer != 0 {
         return Written { answer, length: 0 };
     }
-    let start = CHANNEL_SIZE * list.count;
+    let start = channels_size(list);
     let length = start + STEP_SIZE * steps.count;
     if out.len() < length {
         return Written {

@@ -4,7 +4,7 @@ use mathlib.Core.Path.{sym, _∙_}
 use borrow.Author.Needs.{needs}
 use Rattle.list.proofs.Asking.{no, yes}
 use Rattle.record.specs.Reading.{judgeField}
-use Rattle.record.proofs.Fields.{inside, step-long, channel-long}
+use Rattle.record.proofs.Fields.{inside, step-long, channel-inside}
 use Rattle.record.proofs.judge_field.Statement.{statement}
 use Rattle.record.proofs.judge_field.Tie as tie
 
@@ -31,7 +31,7 @@ is-channel-requires : tie.Need-is-channel-requires
 is-channel-requires c κs = let q = c .before .before in inside _ (yes (q .before .field-inside .ensures) (q .if1 .left)) .0
 
 judge-channel-requires : tie.Need-judge-channel-requires
-judge-channel-requires c κs = let q = c .before .before .before .before in channel-long _ _ (yes (q .before .field-inside .ensures) (q .if1 .left)) (sym (c .before .is-channel .ensures) ∙ c .if3 .taken)
+judge-channel-requires c κs = let q = c .before .before .before .before in channel-inside _ _ (yes (q .before .field-inside .ensures) (q .if1 .left)) (sym (c .before .is-channel .ensures) ∙ c .if3 .taken)
 
 returns-3 : tie.Need-returns-3
 unfolding judgeField

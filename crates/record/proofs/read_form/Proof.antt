@@ -1,12 +1,13 @@
 -- `read_form` meets its contract. The loop's invariant: the arrays hold the channels and steps read so far, and the fields that are left complete
 -- the form (proofs/Held.antt). The measure is the number of bytes left. Assumes nothing.
 use mathlib.Core.Path.{refl, sym, ap, _∙_}
+use mathlib.Core.Logic.{⊎-elim}
 use Prim.Native.Nat.{_-_}
 use native.Mathlib.Omega.{arith}
 use borrow.Author.Needs.{needs}
 use lib.ListN.{length}
 use Rattle.record.specs.Records.{packedForm}
-use Rattle.record.proofs.Fields.{judged-head, is-step, is-channel, channel-allowed}
+use Rattle.record.proofs.Fields.{judged-inside, is-step, is-channel, channel-allowed}
 use Rattle.record.proofs.Held.{Held, held-none, held-step, held-channel, form-refused, form-missing, form-all}
 use Rattle.record.proofs.read_form.Statement.{statement}
 use Rattle.record.proofs.read_form.Tie as tie
@@ -48,26 +49,13 @@ returns c =
     c .refused .ensures ∙ ap packedForm (sym (form-refused _ _ _ _ _ (q .loop .inv) (j .before .before .loop-test .taken) _ refl _ (j .judge-field .ensures) (c .before .if1 .taken)))
 
 is-step-requires : tie.Need-is-step-requires Inv-loop μ-loop
-is-step-requires c κs = judged-head _ _ _ _ (sym (c .before .judge-field .ensures) ∙ c .if1 .left)
+is-step-requires c κs = judged-inside _ _ _ _ (sym (c .before .judge-field .ensures) ∙ c .if1 .left) .0
 
 with-step-requires : tie.Need-with-step-requires Inv-loop μ-loop
 with-step-requires c κs =
     let j = c .before .before .before in
     let f = is-step _ _ _ _ (sym (j .judge-field .ensures) ∙ c .before .before .if1 .left) (sym (c .before .is-step .ensures) ∙ c .if2 .taken) in
     (f .long, f .judged)
-
-loop-again : tie.Need-loop-again Inv-loop μ-loop
-loop-again c =
-    let j = c .before .before .before .before in
-    let q = j .before .before .before in
-    held-step _ _ _ _ _ (q .loop .inv) (j .before .before .loop-test .taken) _ refl _ (j .judge-field .ensures) (c .before .before .before .if1 .left) _
-    (sym (c .before .before .is-step .ensures) ∙ c .before .if2 .taken) (c .with-step .ensures)
-
-add-at : tie.Need-add-at Inv-loop μ-loop
-add-at c = omega (arith, loop-again c .inside)
-
-loop-less : tie.Need-loop-less Inv-loop μ-loop
-loop-less c = omega (arith, loop-again c .inside)
 
 field-channel-requires : tie.Need-field-channel-requires Inv-loop μ-loop
 field-channel-requires c κs =
@@ -84,19 +72,36 @@ with-channel-requires c κs =
     let f = is-channel _ _ _ _ (sym (j .judge-field .ensures) ∙ e .before .before .if1 .left) (sym (e .before .is-step .ensures) ∙ e .if2 .left) in
     channel-allowed _ _ _ (f .judged) .0
 
-loop-again-2 : tie.Need-loop-again-2 Inv-loop μ-loop
-loop-again-2 c =
-    let e = c .before .before .before in
-    let j = e .before .before .before in
+stated-length-requires : tie.Need-stated-length-requires Inv-loop μ-loop
+stated-length-requires c κs =
+    let e = c .before .before in
+    judged-inside _ _ _ _ (sym (e .before .judge-field .ensures) ∙ e .if1 .left) .0
+
+cast-at : tie.Need-cast-at Inv-loop μ-loop
+cast-at c = search needs
+
+add-at : tie.Need-add-at Inv-loop μ-loop
+add-at c = search needs
+
+loop-again : tie.Need-loop-again Inv-loop μ-loop
+loop-again c =
+    let s = c .before .before in
+    let e = s .before in
+    let j = e .before in
     let q = j .before .before .before in
-    held-channel _ _ _ _ _ (q .loop .inv) (j .before .before .loop-test .taken) _ refl _ (j .judge-field .ensures) (e .before .before .if1 .left) _ _ _
-    (sym (e .before .is-step .ensures) ∙ e .if2 .left) (c .before .before .field-channel .ensures) (c .with-channel .ensures) (c .before .is-meta .ensures)
+    rw (c .stated-length .ensures)
+    (⊎-elim
+    (λ w. held-step _ _ _ _ _ (q .loop .inv) (j .before .before .loop-test .taken) _ refl _ (j .judge-field .ensures) (e .if1 .left) _ _ _
+    (sym (s .is-step .ensures) ∙ w .0 .taken) (w .3 ∙ w .1 .ensures) (w .2) (w .4))
+    (λ w. held-channel _ _ _ _ _ (q .loop .inv) (j .before .before .loop-test .taken) _ refl _ (j .judge-field .ensures) (e .if1 .left) _ _ _ _
+    (sym (s .is-step .ensures) ∙ w .0 .left) (w .1 .ensures) (w .4 ∙ w .3 .ensures) (w .5) (w .6 ∙ w .2 .ensures))
+    (c .before .if2 .came))
 
 add-at-2 : tie.Need-add-at-2 Inv-loop μ-loop
-add-at-2 c = omega (arith, loop-again-2 c .inside)
+add-at-2 c = omega (arith, loop-again c .inside)
 
-loop-less-2 : tie.Need-loop-less-2 Inv-loop μ-loop
-loop-less-2 c = omega (arith, loop-again-2 c .inside)
+loop-less : tie.Need-loop-less Inv-loop μ-loop
+loop-less c = omega (arith, loop-again c .inside)
 
 refused-requires-2 : tie.Need-refused-requires-2 Inv-loop μ-loop
 refused-requires-2 c κs = search needs
@@ -128,15 +133,15 @@ read-form-spec =
     returns
     is-step-requires
     with-step-requires
-    add-at
-    loop-less
-    loop-again
     field-channel-requires
     is-meta-requires
     with-channel-requires
+    stated-length-requires
+    cast-at
+    add-at
     add-at-2
-    loop-less-2
-    loop-again-2
+    loop-less
+    loop-again
     refused-requires-2
     returns-2
     returns-3)

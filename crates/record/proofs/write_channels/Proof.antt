@@ -1,13 +1,12 @@
 -- `write_channels` meets its contract. The loop's invariant: the fields so far are in the slice, and those that are left complete them
 -- (proofs/Placed.antt). Assumes nothing.
-use mathlib.Core.Path.{_≡_, ap, _∙_}
-use Prim.Native.Nat.{_+_, _-_, _≤_, min}
+use mathlib.Core.Path.{_≡_, ap}
+use Prim.Native.Nat.{_-_, min}
 use native.Mathlib.Omega.{arith}
 use borrow.Author.Needs.{needs}
-use lib.ListN.{length}
 use Rattle.list.specs.Lists.{maxChannels, channelAt, channels}
 use Rattle.list.proofs.Channels.{channels-all}
-use Rattle.record.specs.Bytes.{channelSize, joined, channelField, channelFields}
+use Rattle.record.specs.Bytes.{joined, channelField, channelFields}
 use Rattle.record.proofs.Placed.{Putting, putting-none, putting-length, putting-all, putting-room, putting-more}
 use Rattle.record.proofs.write_channels.Statement.{statement}
 use Rattle.record.proofs.write_channels.Tie as tie
@@ -27,45 +26,23 @@ loop-holds c =
 entry-of-requires : tie.Need-entry-of-requires Inv-loop μ-loop
 entry-of-requires c κs = search needs
 
-channel-field-requires : tie.Need-channel-field-requires Inv-loop μ-loop
-channel-field-requires c κs = search needs
-
-slice-aggregate-put-bytes : tie.Need-slice-aggregate-put-bytes Inv-loop μ-loop
-slice-aggregate-put-bytes c = search needs
-
 -- the turn of the loop in which a channel was found
 abbrev turn : tie.After-entry-of Inv-loop μ-loop → tie.In-loop Inv-loop μ-loop
 turn c = c .before .before .before .before .before .before
 
 -- the field that is put
-made : (c : tie.After-channel-field Inv-loop μ-loop)
-    → let q = turn (c .before) .before in
-    c .channel-field .result ≡ channelField (channelAt (q .before .before .args .t1) (q .loop .k))
-made c =
-    let q = turn (c .before) .before in
-    c .channel-field .ensures ∙ ap channelField {y = channelAt (q .before .before .args .t1) (q .loop .k)} (c .before .entry-of .ensures)
+made : (c : tie.After-entry-of Inv-loop μ-loop)
+    → let q = turn c .before in
+    channelField (c .entry-of .result) ≡ channelField (channelAt (q .before .before .args .t1) (q .loop .k))
+made c = let q = turn c .before in ap channelField {y = channelAt (q .before .before .args .t1) (q .loop .k)} (c .entry-of .ensures)
 
-room : (c : tie.After-put-bytes-arg Inv-loop μ-loop)
-    → let f = c .before .before in
-    let q = turn (f .before) .before in
-    q .loop .at + length (f .channel-field .result) ≤ length (q .loop .out)
-room c =
-    let f = c .before .before in
-    let t = turn (f .before) in
+put-channel-requires : tie.Need-put-channel-requires Inv-loop μ-loop
+put-channel-requires c κs =
+    let e = c .before in
+    let t = turn e in
     let q = t .before in
     putting-room channelField (channelAt (q .before .before .args .t1)) _ _ 0 _ (omega (arith, q .before .before .pre .1))
-    _ _ _ (q .loop .inv) (t .loop-test .taken) _ (made f)
-
-put-bytes-requires : tie.Need-put-bytes-requires Inv-loop μ-loop
-put-bytes-requires c κs = search needs
-
-add-at : tie.Need-add-at Inv-loop μ-loop
-add-at c =
-    let a = c .before .before .before in
-    let q = turn (a .before .before .before) .before in
-    let n : length (a .before .before .channel-field .result) ≡ channelSize = search needs in
-    let m = putting-length channelField (channelAt (q .before .before .args .t1)) _ _ 0 _ (omega (arith, q .before .before .pre .1)) _ _ _ (q .loop .inv) in
-    omega (arith, room a)
+    _ _ _ (q .loop .inv) (t .loop-test .taken) _ (made e)
 
 add-k : tie.Need-add-k Inv-loop μ-loop
 add-k c = search needs
@@ -75,12 +52,12 @@ loop-less c = search needs
 
 loop-again : tie.Need-loop-again Inv-loop μ-loop
 loop-again c =
-    let a = c .before .before .before in
-    let f = a .before .before in
-    let t = turn (f .before) in
+    let p = c .before .before in
+    let e = p .before .before in
+    let t = turn e in
     let q = t .before in
     putting-more channelField (channelAt (q .before .before .args .t1)) _ _ 0 _ (omega (arith, q .before .before .pre .1))
-    _ _ _ (q .loop .inv) (t .loop-test .taken) _ (made f) _ channelSize (c .before .before .put-bytes .ensures) (search needs)
+    _ _ _ (q .loop .inv) (t .loop-test .taken) _ (made e) _ _ (p .put-channel .ensures .1) (p .put-channel .ensures .0)
 
 same-length : tie.Need-same-length Inv-loop μ-loop
 same-length c =
@@ -102,10 +79,7 @@ write-channels-spec =
     μ-loop
     loop-holds
     entry-of-requires
-    channel-field-requires
-    slice-aggregate-put-bytes
-    put-bytes-requires
-    add-at
+    put-channel-requires
     add-k
     loop-less
     loop-again

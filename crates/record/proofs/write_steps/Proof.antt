@@ -9,7 +9,7 @@ use Rattle.list.specs.Lists.{maxSteps}
 use Rattle.plan.specs.Steps as S
 use Rattle.plan.specs.Steps.{stepAt}
 use Rattle.record.specs.Bytes.{stepSize, joined, stepField, stepFields}
-use Rattle.record.proofs.Placed.{Putting, putting-none, putting-length, putting-all, putting-room, putting-more, steps-all}
+use Rattle.record.proofs.Placed.{Putting, putting-none, putting-length, putting-all, putting-room, putting-more, steps-all, put-placed}
 use Rattle.record.proofs.write_steps.Statement.{statement}
 use Rattle.record.proofs.write_steps.Tie as tie
 
@@ -65,7 +65,7 @@ loop-again c =
     let f = a .before .before in
     let q = f .before .before .before in
     putting-more stepField (stepAt (q .before .before .args .steps)) _ _ (q .before .before .args .start) _ (q .before .before .pre .1)
-    _ _ _ (q .loop .inv) (f .before .before .loop-test .taken) _ (f .step-field .ensures ∙ ap stepField (f .before .step .ensures)) _ stepSize (c .before .before .put-bytes .ensures) (search needs)
+    _ _ _ (q .loop .inv) (f .before .before .loop-test .taken) _ (f .step-field .ensures ∙ ap stepField (f .before .step .ensures)) _ _ (c .before .before .put-bytes .ensures ∙ put-placed _ _ _ (room a)) (search needs)
 
 same-length : tie.Need-same-length Inv-loop μ-loop
 same-length c =

@@ -1,11 +1,17 @@
--- `channel_field` meets its contract: its calls give the two bytes of each number. Assumes nothing.
+-- `short_field` meets its contract: its calls give the two bytes of each number. Assumes nothing.
 use borrow.Author.Needs.{needs}
-use Rattle.record.specs.Bytes.{channelField}
-use Rattle.record.proofs.channel_field.Statement.{statement}
-use Rattle.record.proofs.channel_field.Tie as tie
+use Rattle.record.specs.Bytes.{shortField}
+use Rattle.record.proofs.short_field.Statement.{statement}
+use Rattle.record.proofs.short_field.Tie as tie
+
+cast-low : tie.Need-cast-low
+cast-low c = search needs
 
 low-requires : tie.Need-low-requires
 low-requires c κs = search needs
+
+cast-high : tie.Need-cast-high
+cast-high c = search needs
 
 high-requires : tie.Need-high-requires
 high-requires c κs = search needs
@@ -23,17 +29,19 @@ high-requires-3 : tie.Need-high-requires-3
 high-requires-3 c κs = search needs
 
 returns : tie.Need-returns
-unfolding channelField
+unfolding shortField
 returns c =
     let h = c .before .before in
     let w = h .before .before in
     rw (w .before .low .ensures, w .high .ensures, h .before .low2 .ensures, h .high2 .ensures, c .before .low3 .ensures, c .high3 .ensures)
 
-pub channel-field-spec : {M : Type 1} → statement M
-channel-field-spec =
+pub short-field-spec : {M : Type 1} → statement M
+short-field-spec =
     tie.close
     (tie.spec
+    cast-low
     low-requires
+    cast-high
     high-requires
     low-requires-2
     high-requires-2
