@@ -2,3 +2,4 @@ pub mod Puts
 pub mod Digits
 pub mod Held
 pub mod Outcomes
+pub mod Room

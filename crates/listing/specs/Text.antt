@@ -19,13 +19,16 @@ newline = 10
 abbrev pub digit : ℕ → ℕ
 digit d = 48 + d
 
--- the decimal digits of a number, first the highest, none too many; every number of a listing has at most five
+-- the decimal digits of a number, first the highest, none too many; every number of a listing has at most seven
 abbrev pub digitsUpto : ℕ → ℕ → List ℕ
 digitsUpto zero n = []
 digitsUpto (suc places) n = cond (ltb n 10) (digit n ∷ []) (digitsUpto places (n / 10) ++ (digit (n % 10) ∷ []))
 
+abbrev pub numberPlaces : ℕ
+numberPlaces = 7
+
 unfoldable pub decimal : ℕ → List ℕ
-decimal n = digitsUpto 5 n
+decimal n = digitsUpto numberPlaces n
 
 -- "steps ", "channels ", "coarse " and "refused "
 abbrev pub stepsWord : List ℕ
@@ -60,8 +63,11 @@ stepLine s =
     directionWord (s .horizontal) ++ (placeWord (s .inplace) ++ (two (s .begin) (s .number) ++ (newline ∷ [])))
 
 -- "Channel line: width, height, two shifts, or m m."
+abbrev pub metaWord : List ℕ
+metaWord = 109 ∷ space ∷ 109 ∷ []
+
 abbrev pub shiftWords : Channel → List ℕ
-shiftWords c = cond (isMeta c) (109 ∷ space ∷ 109 ∷ []) (two (c .hshift) (c .vshift))
+shiftWords c = cond (isMeta c) metaWord (two (c .hshift) (c .vshift))
 
 unfoldable pub channelLine : Channel → List ℕ
 channelLine c = two (c .width) (c .height) ++ (space ∷ (shiftWords c ++ (newline ∷ [])))

@@ -40,14 +40,18 @@ fn digit(n: usize) -> u8
     b'0' + (n % 10) as u8
 }
 
-fn five_digits(n: usize) -> [u8; 5]
-    ensures { λ r. ⌜ r ≡ Putting.fiveDigits n ⌝ }
+fn seven_digits(n: usize) -> [u8; 7]
+    ensures { λ r. ⌜ r ≡ Putting.lastDigits Text.numberPlaces n ⌝ }
 {
     let tens = n / 10;
     let hundreds = tens / 10;
     let thousands = hundreds / 10;
+    let ten_thousands = thousands / 10;
+    let hundred_thousands = ten_thousands / 10;
     [
-        digit(thousands / 10),
+        digit(hundred_thousands / 10),
+        digit(hundred_thousands),
+        digit(ten_thousands),
         digit(thousands),
         digit(hundreds),
         digit(tens),
@@ -55,31 +59,37 @@ fn five_digits(n: usize) -> [u8; 5]
     ]
 }
 
-// How many of the five digits lead in vain.
+// How many of the seven digits lead in vain.
 fn vain_digits(n: usize) -> usize
-    ensures { λ r. ⌜ Putting.Digits n r ⌝ }
+    ensures { λ r. ⌜ Putting.Vain Text.numberPlaces n r ⌝ }
 {
     if n < 10 {
-        return 4;
+        return 6;
     }
     if n < 100 {
-        return 3;
+        return 5;
     }
     if n < 1000 {
+        return 4;
+    }
+    if n < 10_000 {
+        return 3;
+    }
+    if n < 100_000 {
         return 2;
     }
-    if n < 10000 {
+    if n < 1_000_000 {
         return 1;
     }
     0
 }
 
 fn put_number(n: usize, at: usize, text: &mut [u8]) -> usize
-    requires { ⌜ at + Putting.numberRoom ≤ length (now text) ⌝ }
+    requires { ⌜ at + length (Text.decimal n) ≤ length (now text) ⌝ }
     ensures { λ r. ⌜ Put (Text.decimal n) at (now (text .entry)) (now (text .exit)) r ⌝ }
     ensures room { λ r. ⌜ r ≤ at + Putting.numberRoom ⌝ }
 {
-    let digits = five_digits(n);
+    let digits = seven_digits(n);
     let vain = vain_digits(n);
     put_word(&digits[vain..], at, text)
 }
@@ -121,7 +131,7 @@ fn put_place(inplace: bool, at: usize, text: &mut [u8]) -> usize
 
 // Two numbers with a space between them.
 fn put_two(first: usize, second: usize, at: usize, text: &mut [u8]) -> usize
-    requires { ⌜ at + Putting.twoRoom ≤ length (now text) ⌝ }
+    requires { ⌜ at + length (Text.two first second) ≤ length (now text) ⌝ }
     ensures { λ r. ⌜ Put (Text.two first second) at (now (text .entry)) (now (text .exit)) r ⌝ }
     ensures room { λ r. ⌜ r ≤ at + Putting.twoRoom ⌝ }
 {
@@ -144,9 +154,9 @@ fn put_step(step: Step, at: usize, text: &mut [u8]) -> usize
 
 // The two shifts, or "m m".
 fn put_shifts(c: Channel, at: usize, text: &mut [u8]) -> usize
-    requires { ⌜ at + Putting.twoRoom ≤ length (now text) ⌝ }
+    requires { ⌜ at + Putting.shiftsRoom ≤ length (now text) ⌝ }
     ensures { λ r. ⌜ Put (Text.shiftWords c) at (now (text .entry)) (now (text .exit)) r ⌝ }
-    ensures room { λ r. ⌜ r ≤ at + Putting.twoRoom ⌝ }
+    ensures room { λ r. ⌜ r ≤ at + Putting.shiftsRoom ⌝ }
 {
     if c.is_meta() {
         put_word(b"m m", at, text)

@@ -9,8 +9,7 @@ use lib.ListN.{length}
 use borrow.Author.Tests.{eqb-true, eqb-false, ne-eqb, le-leb}
 use Rattle.numbers.specs.Numbers.{refusedLength}
 use Rattle.list.specs.declared.Step.{Step}
-use Rattle.channel.specs.Channel.{sidesFit}
-use Rattle.list.specs.Tables.{padded, all}
+use Rattle.list.specs.Tables.{padded}
 use Rattle.list.specs.Lists.{maxSteps}
 use Rattle.list.specs.Questions.{ask}
 use Rattle.list.proofs.Asking.{none-refused}
@@ -19,7 +18,7 @@ use Rattle.record.specs.Records as W
 use Rattle.record.specs.Records.{recordFor, writeAnswer, writtenOf}
 use Rattle.record.proofs.Flags.{flags-read}
 use Rattle.record.proofs.Outcomes.{written-length, written-bytes}
-use Rattle.numbered.specs.Numbered.{channelNumbers, stepNumbers, groups, whole, channelsOf, flagsAt, stepAt, stepsOf, flagsOf, bytesOf, judgeNumbers, slicesAllowed, answer}
+use Rattle.numbered.specs.Numbered.{channelNumbers, stepNumbers, groups, whole, flagsAt, stepAt, stepsOf, flagsOf, bytesOf, judgeNumbers, slicesAllowed, answer}
 use Rattle.numbered.specs.Arrays.{listOf, planBy, planOf}
 use Rattle.numbered.specs.Laws.{AsWritten, AsWrittenLaw, PlanPacked, RefusalKeeps}
 use Rattle.numbered.proofs.Fields.{steps-count, flags-small}
@@ -32,15 +31,14 @@ refusal-keeps ns ms bytes len z =
     let k = kept ns ms bytes len (answer ns ms bytes len) refl z in
     (sym (k .1), sym (k .2))
 
-module _ (ns ms bytes len : List ℕ) (sides : all sidesFit (channelsOf ns) ≡ true) (wholes : (whole channelNumbers ns && whole stepNumbers ms) ≡ true)
-    (room : 1 ≤ length len) where
+module _ (ns ms bytes len : List ℕ) (wholes : (whole channelNumbers ns && whole stepNumbers ms) ≡ true) (room : 1 ≤ length len) where
   record-is : judgeNumbers ns ms ≡ 0 → recordFor (listOf ns) (planOf ms) ≡ bytesOf ns ms
   record-is z = record-by ns ms z (λ n. n) (map-over (stepsOf ms))
 
   same-answer : writeAnswer (listOf ns) (planOf ms) bytes ≡ answer ns ms bytes len
   unfolding W.writeAnswer answer slicesAllowed
   same-answer =
-      rw (numbers-plan ns ms sides, wholes, le-leb 1 (length len) room, and-true (leb (length (bytesOf ns ms)) (length bytes)))
+      rw (numbers-plan ns ms, wholes, le-leb 1 (length len) room, and-true (leb (length (bytesOf ns ms)) (length bytes)))
       (go (eqb (judgeNumbers ns ms) 0) refl)
     where
       go : (t : Bool) → eqb (judgeNumbers ns ms) 0 ≡ t
@@ -85,7 +83,7 @@ module _ (ns ms bytes len : List ℕ) (sides : all sidesFit (channelsOf ns) ≡ 
       go false e = refused (eqb-false _ 0 e)
 
 pub as-written : AsWrittenLaw
-as-written ns ms bytes len sides n m room = either ns ms bytes len sides (rw (n, m)) room
+as-written ns ms bytes len n m room = either ns ms bytes len (rw (n, m)) room
 
 -- ---- the arrays of the steps
 flags-back : (ms : List ℕ) (k : ℕ) → flagsAt ms k < 4 → S.flagsOf (stepAt ms k) ≡ flagsAt ms k

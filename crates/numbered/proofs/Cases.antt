@@ -37,19 +37,22 @@ Cases =
     × (recordAfter plain [] (replicate 10 7) (5 ∷ 6 ∷ []) ≡ 1 ∷ 6 ∷ 0 ∷ 20 ∷ 0 ∷ 9 ∷ 0 ∷ 0 ∷ 0 ∷ 7 ∷ [])
     × (lengthAfter plain [] (replicate 10 7) (5 ∷ 6 ∷ []) ≡ 9 ∷ 6 ∷ [])
     × (recordAfter plain step (replicate 17 7) (5 ∷ []) ≡ 1 ∷ 6 ∷ 0 ∷ 20 ∷ 0 ∷ 9 ∷ 0 ∷ 0 ∷ 0 ∷ 2 ∷ 5 ∷ 0 ∷ 3 ∷ 0 ∷ 0 ∷ 1 ∷ 0 ∷ [])
+    -- a strip has tag 3
+    × (recordAfter (65_536 ∷ 1 ∷ 0 ∷ 2 ∷ []) step (replicate 22 7) (5 ∷ []) ≡ 3 ∷ 10 ∷ 0 ∷ 0 ∷ 0 ∷ 1 ∷ 0 ∷ 1 ∷ 0 ∷ 0 ∷ 0 ∷ 0 ∷ 2 ∷ 2 ∷ 5 ∷ 0 ∷ 3 ∷ 0 ∷ 0 ∷ 1 ∷ 0 ∷ 7 ∷ [])
+    × (recordAfter (65_535 ∷ 1 ∷ 0 ∷ 2 ∷ []) step (replicate 18 7) (5 ∷ []) ≡ 1 ∷ 6 ∷ 0 ∷ 255 ∷ 255 ∷ 1 ∷ 0 ∷ 0 ∷ 2 ∷ 2 ∷ 5 ∷ 0 ∷ 3 ∷ 0 ∷ 0 ∷ 1 ∷ 0 ∷ 7 ∷ [])
     -- 3: no channel
     × (asked [] step ≡ 3)
     × (asked (20 ∷ 9 ∷ 0 ∷ []) [] ≡ 3)
     -- 4: a side, a shift and flags that no field could hold, and those that one could
-    × (asked (65_536 ∷ 0 ∷ 0 ∷ 0 ∷ []) [] ≡ 4)
-    × (asked (20 ∷ 65_536 ∷ 0 ∷ 0 ∷ []) [] ≡ 4)
+    × (asked (1_048_576 ∷ 0 ∷ 0 ∷ 0 ∷ []) [] ≡ 4)
+    × (asked (20 ∷ 4_294_967_295 ∷ 0 ∷ 0 ∷ []) [] ≡ 4)
     × (asked (20 ∷ 9 ∷ 256 ∷ 0 ∷ []) [] ≡ 4)
     × (asked (20 ∷ 9 ∷ 0 ∷ 31 ∷ []) [] ≡ 4)
     × (asked (20 ∷ 9 ∷ 0 ∷ 0 ∷ 1 ∷ 1 ∷ 255 ∷ 255 ∷ []) [] ≡ 4)
     × (asked plain (4 ∷ 0 ∷ 1 ∷ []) ≡ 4)
     × (asked plain (256 ∷ 0 ∷ 1 ∷ []) ≡ 4)
     -- 5, 6
-    × (asked (65_535 ∷ 65_535 ∷ 0 ∷ 0 ∷ []) [] ≡ 5)
+    × (asked (65_536 ∷ 65_536 ∷ 0 ∷ 0 ∷ []) [] ≡ 5)
     × (asked meta [] ≡ 11)
     -- 7: a first channel and a number that no field could hold, after the steps before, and after question 4 of all flags
     × (asked plain (3 ∷ 65_536 ∷ 1 ∷ []) ≡ 6)
@@ -66,13 +69,12 @@ Cases =
 -- the conditions of the laws (specs/Laws.antt) hold for a channel and a step
 abbrev pub Witness : Type 0
 Witness =
-    (all C.sidesFit (channelsOf plain) ≡ true)
-    × (whole channelNumbers plain ≡ true)
+    (whole channelNumbers plain ≡ true)
     × (whole stepNumbers step ≡ true)
     × (all flagsAllowed (flagsOf step) ≡ true)
     × (asked plain step ≡ 0)
 
 pub cases : Cases × Witness
-unfolding channelAt channelsOf stepAt stepsOf flagsOf bytesOf judgeNumbers slicesAllowed answer recordAfter lengthAfter C.isMeta C.shiftsAllowed C.sidesFit C.samples L.raised L.stepped L.average L.residual Q.countAllowed Q.channelsAllowed Q.totalAllowed Q.judgeStep Q.rangeAllowed Q.kindsAlike Q.placeAllowed Q.hasSides Q.roomLeft Q.shiftsKept S.flagsAllowed S.flagsOf D.metaCount D.defaultSteps D.chroma D.allChannels D.rounds P.hasOther P.meant P.meantAllowed P.judgeMeant B.recordOf B.channelField B.stepField
+unfolding channelAt channelsOf stepAt stepsOf flagsOf bytesOf judgeNumbers slicesAllowed answer recordAfter lengthAfter C.isMeta C.shiftsAllowed C.sidesFit C.isAllowed C.samples L.raised L.stepped L.average L.residual Q.countAllowed Q.channelsAllowed Q.totalAllowed Q.judgeStep Q.rangeAllowed Q.kindsAlike Q.placeAllowed Q.hasSides Q.roomLeft Q.shiftsKept S.flagsAllowed S.flagsOf D.metaCount D.defaultSteps D.chroma D.allChannels D.rounds P.hasOther P.meant P.meantAllowed P.judgeMeant B.recordOf B.isStrip B.shortField B.stripField B.channelField B.stepField
 cases =
-    ((refl, refl, refl, refl, refl, refl, refl, refl, refl, refl, refl, refl, refl, refl, refl, refl, refl, refl, refl, refl, refl, refl, refl, refl), (refl, refl, refl, refl, refl))
+    ((refl, refl, refl, refl, refl, refl, refl, refl, refl, refl, refl, refl, refl, refl, refl, refl, refl, refl, refl, refl, refl, refl, refl, refl, refl, refl), (refl, refl, refl, refl))

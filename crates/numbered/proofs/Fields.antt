@@ -1,16 +1,14 @@
 -- The numbers' channels and steps, one by one, and numbers that fit their fields. Assumes nothing.
 use mathlib.Core.Path.{_≡_, sym, ap, _∙_}
-use mathlib.Core.Bool.{Bool, true, _&&_, and-eq-true-iff}
+use mathlib.Core.Bool.{Bool, true, and-eq-true-iff}
 use mathlib.Core.List.{List}
 use Prim.Native.Nat.{ℕ, _+_, _<_, _≤_}
 use native.Mathlib.Omega.{arith}
 use lib.Dec.{leb}
 use lib.ListN.{length, getD}
 use borrow.Author.Tests.{leb-true, ltb-true}
-use Rattle.numbers.specs.Numbers.{maxSide}
 use Rattle.channel.specs.declared.Channel.{Channel}
-use Rattle.channel.specs.Channel.{metaShift, sidesFit}
-use Rattle.channel.proofs.Sides.{fit-sides}
+use Rattle.channel.specs.Channel.{metaShift}
 use Rattle.list.specs.Tables.{table, all}
 use Rattle.list.specs.Questions.{channelOf}
 use Rattle.list.proofs.Tables.{table-length, table-at}
@@ -18,7 +16,7 @@ use Rattle.list.proofs.Maps.{all-at}
 use Rattle.plan.specs.Steps as S
 use Rattle.plan.specs.Steps.{flagsAllowed}
 use Rattle.numbered.specs.Numbered.{channelNumbers, stepNumbers, groups, channelAt, channelsOf, stepAt, stepsOf, flagsAt, flagsOf}
-use Rattle.numbered.specs.Arrays.{fieldsFit}
+use Rattle.numbered.specs.Arrays.{shiftsFit}
 
 -- an entry of a table from 0 on
 pub entry-at {ℓ} : {A : Type ℓ} (f : ℕ → A) (n k : ℕ) (d : A) → k < n → getD (table f 0 n) k d ≡ f k
@@ -30,23 +28,14 @@ entry-passes f p n k a h = rw (entry-at f n k (f k) h) at (all-at p (table f 0 n
 
 -- ---- a channel
 pub record Fit (c : Channel) : Type 0 where
-  pub width : c .width ≤ maxSide
-  pub height : c .height ≤ maxSide
   pub hshift : c .hshift ≤ metaShift
   pub vshift : c .vshift ≤ metaShift
 
-pub channel-fit : (c : Channel) → fieldsFit c ≡ true → Fit c
-unfolding fieldsFit
+pub channel-fit : (c : Channel) → shiftsFit c ≡ true → Fit c
+unfolding shiftsFit
 channel-fit c h =
-    let b = and-eq-true-iff (sidesFit c) (leb (c .hshift) metaShift && leb (c .vshift) metaShift) .0 h in
-    let sides = fit-sides c (b .0) in
-    let shifts = and-eq-true-iff (leb (c .hshift) metaShift) (leb (c .vshift) metaShift) .0 (b .1) in
-    record {
-      width = sides .0;
-      height = sides .1;
-      hshift = leb-true _ _ (shifts .0);
-      vshift = leb-true _ _ (shifts .1);
-    }
+    let b = and-eq-true-iff (leb (c .hshift) metaShift) (leb (c .vshift) metaShift) .0 h in
+    record { hshift = leb-true _ _ (b .0); vshift = leb-true _ _ (b .1) }
 
 module _ (ns : List ℕ) where
   pub channels-count : length (channelsOf ns) ≡ groups channelNumbers ns
@@ -58,9 +47,9 @@ module _ (ns : List ℕ) where
     unfolding channelsOf
     channel-is = sym (entry-at (channelAt ns) (groups channelNumbers ns) k _ h)
 
-    pub channel-fits : all fieldsFit (channelsOf ns) ≡ true → fieldsFit (channelAt ns k) ≡ true
+    pub channel-fits : all shiftsFit (channelsOf ns) ≡ true → shiftsFit (channelAt ns k) ≡ true
     unfolding channelsOf
-    channel-fits a = entry-passes (channelAt ns) fieldsFit (groups channelNumbers ns) k a h
+    channel-fits a = entry-passes (channelAt ns) shiftsFit (groups channelNumbers ns) k a h
 
 -- ---- a step
 module _ (ms : List ℕ) where

@@ -3,23 +3,21 @@
 use mathlib.Core.Path.{_≡_, refl, sym, ap, _∙_}
 use mathlib.Core.Bool.{Bool, true, false, not, cond, _&&_, and-true, and-eq-true-iff}
 use mathlib.Core.List.{List, [], _∷_, _++_}
-use Prim.Native.Nat.{ℕ, _+_, _*_, _≤_}
+use Prim.Native.Nat.{ℕ, _≤_}
 use native.Mathlib.Omega.{arith}
 use lib.Dec.{eqb, leb}
-use lib.ListN.{length, drop, set, length-append}
+use lib.ListN.{length, drop, set}
 use borrow.Author.Tests.{not-true, not-false, eqb-true, ne-eqb, leb-true}
 use Rattle.numbers.specs.Numbers.{refusedLength}
 use Rattle.list.specs.declared.ChannelList.{ChannelList}
 use Rattle.list.specs.Tables.{map}
-use Rattle.list.specs.Lists.{maxChannels, maxSteps}
 use Rattle.list.specs.Questions.{ask}
 use Rattle.plan.specs.declared.Steps.{Steps}
 use Rattle.record.specs.declared.Written.{Written}
-use Rattle.record.specs.Bytes as B
-use Rattle.record.specs.Bytes.{channelSize, stepSize, channelField, stepField, channelFields, stepFields}
+use Rattle.record.specs.Bytes.{recordRoom}
 use Rattle.record.specs.Records as W
 use Rattle.record.specs.Records.{recordFor, writeAnswer, writtenOf, writtenBytes}
-use Rattle.record.proofs.Joined.{channel-size, step-size, joined-length}
+use Rattle.record.proofs.Joined.{record-most}
 use Rattle.record.proofs.Outcomes.{written-length, written-bytes}
 use Rattle.numbered.specs.Numbered.{channelNumbers, stepNumbers, whole, channelsOf, stepsOf, bytesOf, judgeNumbers, slicesAllowed, answer, recordAfter, lengthAfter}
 use Rattle.numbered.specs.Arrays.{listOf, planBy, held}
@@ -84,19 +82,10 @@ module _ (ns ms : List ℕ) (z : judgeNumbers ns ms ≡ 0) where
   record-is : recordFor (listOf ns) (planBy held ms) ≡ bytesOf ns ms
   record-is = record-by held (meant-same (stepsOf ms) (channelsOf ns) (omega (arith, channels-count ns, is .list .0)) (is .meant))
 
-  bytes-few : length (bytesOf ns ms) ≤ channelSize * maxChannels + stepSize * maxSteps
-  unfolding bytesOf B.recordOf
+  bytes-few : length (bytesOf ns ms) ≤ recordRoom
+  unfolding bytesOf
   bytes-few =
-      omega (
-        arith,
-        length-append (channelFields (channelsOf ns)) (stepFields (stepsOf ms)),
-        joined-length channelField channelSize channel-size (channelsOf ns),
-        joined-length stepField stepSize step-size (stepsOf ms),
-        channels-count ns,
-        steps-count ms,
-        is .list .0,
-        is .steps .0,
-      )
+      record-most (channelsOf ns) (stepsOf ms) (omega (arith, channels-count ns, is .list .0)) (omega (arith, steps-count ms, is .steps .0))
 
   write-asked : (bytes : List ℕ) → writeAnswer (listOf ns) (planBy held ms) bytes ≡ ask (leb (length (bytesOf ns ms)) (length bytes)) refusedLength 0
   unfolding W.writeAnswer
@@ -160,7 +149,7 @@ module _ (ns ms bytes len : List ℕ) (a : ℕ) (ea : a ≡ judgeNumbers ns ms) 
         out-is : out ≡ bytesOf ns ms ++ drop (length (bytesOf ns ms)) bytes
         out-is = left ∙ rw (← record-is ns ms (sym ea ∙ z)) (written-bytes (listOf ns) (planBy held ms) bytes writes)
 
-        pub length-few : w .length ≤ channelSize * maxChannels + stepSize * maxSteps
+        pub length-few : w .length ≤ recordRoom
         length-few = omega (arith, length-is, bytes-few ns ms (sym ea ∙ z))
 
         pub writing-done : Results ns ms bytes len 0 out (set len 0 (w .length))

@@ -10,7 +10,6 @@ use Rattle.list.proofs.Asking.{none-refused}
 use Rattle.plan.specs.Steps as S
 use Rattle.record.specs.Records.{readOf}
 use Rattle.record.proofs.ReadWritten.{read-written}
-use Rattle.record.proofs.RecordOf.{packed-sides}
 use Rattle.numbered.specs.Numbered.{channelsOf, stepsOf, bytesOf, judgeNumbers, answer, recordAfter, lengthAfter}
 use Rattle.numbered.specs.Arrays.{listOf, planOf}
 use Rattle.numbered.specs.Laws.{ReadBack}
@@ -34,7 +33,7 @@ module _ (ns ms bytes len : List ℕ) (z : answer ns ms bytes len ≡ 0) where
 
   reads : readOf (bytesOf ns ms) ≡ record { answer = 0; list = Lists.packed (channelsOf ns); steps = S.packed (stepsOf ms) }
   reads =
-      let w = read-written (listOf ns) (planOf ms) (packed-sides (channelsOf ns) (is .sides)) (numbers-plan ns ms (is .sides) ∙ judged) .read in
+      let w = read-written (listOf ns) (planOf ms) (numbers-plan ns ms ∙ judged) .read in
       rw (
         record-by ns ms judged (λ n. n) (map-over (stepsOf ms)),
         list-channels ns (is .list .0),

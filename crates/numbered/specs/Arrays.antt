@@ -1,12 +1,13 @@
--- The numbers in flat arrays, unused entries 0, for the contracts of the functions that fill them and for the laws beside the record's writer. An
--- array's entry holds 16 bits: a first channel or a number of channels past it is held to the largest entry, which question 7 refuses too.
+-- The numbers in flat arrays, unused entries 0, for the contracts of the functions that fill them and for the laws beside the record's writer. A side's
+-- entry holds any number, a shift's 8 bits, a step's 16: a first channel or a number of channels past them is held to the largest entry, which
+-- question 7 refuses too.
 -- Definitions only.
 use mathlib.Core.Bool.{Bool, _&&_}
 use mathlib.Core.List.{List}
 use Prim.Native.Nat.{ℕ, min}
 use lib.Dec.{leb}
 use Rattle.channel.specs.declared.Channel.{Channel}
-use Rattle.channel.specs.Channel.{metaShift, sidesFit}
+use Rattle.channel.specs.Channel.{metaShift}
 use Rattle.list.specs.declared.ChannelList.{ChannelList}
 use Rattle.list.specs.Tables.{table, padded}
 use Rattle.list.specs.Lists as Lists
@@ -14,9 +15,9 @@ use Rattle.list.specs.Lists.{maxSteps}
 use Rattle.plan.specs.declared.Steps.{Steps}
 use Rattle.numbered.specs.Numbered.{stepNumbers, groups, channelsOf, flagsOf, firstAt, numberAt}
 
--- whether a channel's numbers fit its fields: 16 bits a side, 8 bits a shift
-unfoldable pub fieldsFit : Channel → Bool
-fieldsFit c = sidesFit c && (leb (c .hshift) metaShift && leb (c .vshift) metaShift)
+-- whether a channel's shifts fit their entries
+unfoldable pub shiftsFit : Channel → Bool
+shiftsFit c = leb (c .hshift) metaShift && leb (c .vshift) metaShift
 
 abbrev pub listOf : List ℕ → ChannelList
 listOf ns = Lists.packed (channelsOf ns)

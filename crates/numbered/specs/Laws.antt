@@ -6,7 +6,6 @@ use mathlib.Core.List.{List, _∷_}
 use Prim.Native.Nat.{ℕ, _≤_}
 use lib.Dec.{eqb}
 use lib.ListN.{length, getD, take, drop}
-use Rattle.channel.specs.Channel.{sidesFit}
 use Rattle.list.specs.Tables.{all}
 use Rattle.list.specs.Lists as Lists
 use Rattle.plan.specs.Steps as S
@@ -22,11 +21,11 @@ pub record AsWritten (ns ms bytes len : List ℕ) : Type 0 where
   pub told : lengthAfter ns ms bytes len
       ≡ cond (eqb (writtenOf (listOf ns) (planOf ms) bytes .answer) 0) (writtenOf (listOf ns) (planOf ms) bytes .length ∷ drop 1 len) len
 
--- where the sides fit their fields, no number is left over and the length has room; the other fields need no such condition, since the writer's
--- definitions refuse what no field could hold, as the numbers' do
+-- where no number is left over and the length has room; the fields need no such condition, since the writer's definitions refuse what no field
+-- could hold, as the numbers' do
 abbrev pub AsWrittenLaw : Type 0
 AsWrittenLaw =
-    (ns ms bytes len : List ℕ) → all sidesFit (channelsOf ns) ≡ true → whole channelNumbers ns ≡ true → whole stepNumbers ms ≡ true → 1 ≤ length len
+    (ns ms bytes len : List ℕ) → whole channelNumbers ns ≡ true → whole stepNumbers ms ≡ true → 1 ≤ length len
     → AsWritten ns ms bytes len
 
 -- the arrays of the steps are those that hold the list of steps, where their flags are allowed

@@ -8,7 +8,6 @@ use lib.Dec.{eqb, leb}
 use lib.ListN.{length, getD, drop}
 use Rattle.numbers.specs.Numbers.{refusedCount, refusedForm, refusedSamples, refusedLength}
 use Rattle.channel.specs.declared.Channel.{Channel}
-use Rattle.channel.specs.Channel.{sidesFit}
 use Rattle.list.specs.declared.Step.{Step}
 use Rattle.list.specs.Tables.{table, all}
 use Rattle.list.specs.Lists.{maxSteps}
@@ -76,11 +75,11 @@ unfoldable pub bytesOf : List ℕ → List ℕ → List ℕ
 bytesOf ns ms = recordOf (channelsOf ns) (stepsOf ms)
 
 -- ---- the questions
--- 3 to 11; 4 judges the sides too, since numbers may be larger than any field
+-- 3 to 11
 unfoldable pub judgeNumbers : List ℕ → List ℕ → ℕ
 judgeNumbers ns ms =
     ask (countAllowed (groups channelNumbers ns) && leb (groups stepNumbers ms) maxSteps) refusedCount
-    (ask (all sidesFit (channelsOf ns) && (channelsAllowed (channelsOf ns) && all flagsAllowed (flagsOf ms))) refusedForm
+    (ask (channelsAllowed (channelsOf ns) && all flagsAllowed (flagsOf ms)) refusedForm
     (ask (totalAllowed (channelsOf ns)) refusedSamples
     (judgeMeant (stepsOf ms) (channelsOf ns))))
 

@@ -12,7 +12,6 @@ ghost use Rattle.numbered.specs.Arrays as Arrays;
 use channel::Channel;
 use list::ChannelList;
 use list::store;
-use numbers::MAX_SIDE;
 use numbers::REFUSED_COUNT;
 use numbers::REFUSED_FORM;
 use numbers::REFUSED_LENGTH;
@@ -27,26 +26,23 @@ const STEP_NUMBERS: usize = 3;
 // The largest first channel or number that a step's arrays hold.
 const MAX_ENTRY: u32 = 65_535;
 
-// Whether the fields of a channel hold the numbers of channel `k`.
-fn channel_fits(channels: &[u32], k: usize) -> bool
+// Whether a list's entries hold the shifts of channel `k`; they hold any side.
+fn shifts_fit(channels: &[u32], k: usize) -> bool
     requires { ⌜ k < Spec.groups Spec.channelNumbers (now channels) ⌝ }
-    ensures { λ r. ⌜ r ≡ Arrays.fieldsFit (Spec.channelAt (now (channels .entry)) k) ⌝ }
+    ensures { λ r. ⌜ r ≡ Arrays.shiftsFit (Spec.channelAt (now (channels .entry)) k) ⌝ }
 {
     let at = CHANNEL_NUMBERS * k;
-    let side = MAX_SIDE as u32;
     let shift = Channel::META as u32;
-    let sides = (channels[at] <= side) & (channels[at + 1] <= side);
-    let shifts = (channels[at + 2] <= shift) & (channels[at + 3] <= shift);
-    sides & shifts
+    (channels[at + 2] <= shift) & (channels[at + 3] <= shift)
 }
 
 // The same of every channel.
 fn channels_fit(channels: &[u32]) -> bool
-    ensures { λ r. ⌜ r ≡ all Arrays.fieldsFit (Spec.channelsOf (now (channels .entry))) ⌝ }
+    ensures { λ r. ⌜ r ≡ all Arrays.shiftsFit (Spec.channelsOf (now (channels .entry))) ⌝ }
 {
     let count = channels.len() / CHANNEL_NUMBERS;
     for k in 0..count {
-        if !channel_fits(channels, k) {
+        if !shifts_fit(channels, k) {
             return false;
         }
     }
@@ -66,28 +62,28 @@ fn flags_allowed(steps: &[u32]) -> bool
     true
 }
 
-// Channel `k`, whose fields hold its numbers.
+// Channel `k`, whose shifts fit.
 fn channel_at(channels: &[u32], k: usize) -> Channel
-    requires { ⌜ (k < Spec.groups Spec.channelNumbers (now channels)) × (Arrays.fieldsFit (Spec.channelAt (now channels) k) ≡ true) ⌝ }
+    requires { ⌜ (k < Spec.groups Spec.channelNumbers (now channels)) × (Arrays.shiftsFit (Spec.channelAt (now channels) k) ≡ true) ⌝ }
     ensures { λ r. ⌜ r ≡ Spec.channelAt (now (channels .entry)) k ⌝ }
 {
     let at = CHANNEL_NUMBERS * k;
     Channel {
-        width: channels[at] as u16,
-        height: channels[at + 1] as u16,
+        width: channels[at],
+        height: channels[at + 1],
         hshift: channels[at + 2] as u8,
         vshift: channels[at + 3] as u8,
     }
 }
 
-// The list of channels whose fields hold their numbers.
+// The list of channels whose shifts fit.
 fn list_of(channels: &[u32]) -> ChannelList
-    requires { ⌜ (Spec.groups Spec.channelNumbers (now channels) ≤ maxChannels) × (all Arrays.fieldsFit (Spec.channelsOf (now channels)) ≡ true) ⌝ }
+    requires { ⌜ (Spec.groups Spec.channelNumbers (now channels) ≤ maxChannels) × (all Arrays.shiftsFit (Spec.channelsOf (now channels)) ≡ true) ⌝ }
     ensures { λ r. ⌜ r ≡ Arrays.listOf (now (channels .entry)) ⌝ }
 {
     let count = channels.len() / CHANNEL_NUMBERS;
-    let mut widths = [0u16; 256];
-    let mut heights = [0u16; 256];
+    let mut widths = [0u32; 256];
+    let mut heights = [0u32; 256];
     let mut hshifts = [0u8; 256];
     let mut vshifts = [0u8; 256];
     for k in 0..count {

@@ -1,5 +1,6 @@
 -- `put_numbered` meets its contract: three parts, one after the other. Assumes nothing.
 use borrow.Author.Needs.{needs}
+use Rattle.listing.proofs.Digits.{fits-number}
 use Rattle.listing.proofs.Puts.{then}
 use Rattle.listing.proofs.put_numbered.Statement.{statement}
 use Rattle.listing.proofs.put_numbered.Tie as tie
@@ -8,7 +9,7 @@ put-word-requires : tie.Need-put-word-requires
 put-word-requires c κs = search needs
 
 put-number-requires : tie.Need-put-number-requires
-put-number-requires c κs = search needs
+put-number-requires c κs = fits-number _ _ _ (search needs)
 
 slice-aggregate-put-word : tie.Need-slice-aggregate-put-word
 slice-aggregate-put-word c = search needs

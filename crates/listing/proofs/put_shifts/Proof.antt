@@ -1,5 +1,7 @@
 -- `put_shifts` meets its contract: the words of each case. Assumes nothing.
+use native.Mathlib.Omega.{arith}
 use borrow.Author.Needs.{needs}
+use Rattle.listing.proofs.Digits.{shifts-room, fits-shifts}
 use Rattle.listing.proofs.put_shifts.Statement.{statement}
 use Rattle.listing.proofs.put_shifts.Tie as tie
 
@@ -19,7 +21,7 @@ cast-put-two-2 : tie.Need-cast-put-two-2
 cast-put-two-2 c = search needs
 
 put-two-requires : tie.Need-put-two-requires
-put-two-requires c κs = search needs
+put-two-requires c κs = fits-shifts _ _ _ _ (omega arith) (omega arith) (search needs)
 
 same-length : tie.Need-same-length
 same-length c = search needs
@@ -31,7 +33,9 @@ same-length-2 : tie.Need-same-length-2
 same-length-2 c = search needs
 
 returns-2 : tie.Need-returns-2
-returns-2 c = rw (← c .before .before .before .before .before .before .before .is-meta .ensures, c .before .before .before .before .before .before .if1 .left) (c .before .before .put-two .ensures)
+returns-2 c =
+    let s = c .before .before .before .before .before .before .before .before .before .args .c in
+    rw (← c .before .before .before .before .before .before .before .is-meta .ensures, c .before .before .before .before .before .before .if1 .left) (c .before .before .put-two .ensures .0, omega (arith, c .before .before .put-two .ensures .0 .ends, shifts-room (s .hshift) (s .vshift) (omega arith) (omega arith)))
 
 pub put-shifts-spec : {M : Type 1} → statement M
 put-shifts-spec =

@@ -1,5 +1,6 @@
 -- `put_step` meets its contract: four parts, one after the other. Assumes nothing.
 use borrow.Author.Needs.{needs}
+use Rattle.listing.proofs.Digits.{fits-two}
 use Rattle.listing.proofs.Puts.{then}
 use Rattle.listing.specs.Text.{stepLine}
 use Rattle.listing.proofs.put_step.Statement.{statement}
@@ -18,7 +19,7 @@ cast-put-two-2 : tie.Need-cast-put-two-2
 cast-put-two-2 c = search needs
 
 put-two-requires : tie.Need-put-two-requires
-put-two-requires c κs = search needs
+put-two-requires c κs = fits-two _ _ _ _ (search needs)
 
 slice-aggregate-put-word : tie.Need-slice-aggregate-put-word
 slice-aggregate-put-word c = search needs

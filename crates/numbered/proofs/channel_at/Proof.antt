@@ -1,4 +1,4 @@
--- `channel_at` meets its contract: each number fits its field. Assumes nothing.
+-- `channel_at` meets its contract: each shift fits its entry. Assumes nothing.
 use mathlib.Core.Path.{refl}
 use native.Mathlib.Omega.{arith}
 use borrow.Author.Needs.{needs}
@@ -16,48 +16,40 @@ mul-t4 c = search needs
 shared-slice-read-t6 : tie.Need-shared-slice-read-t6
 shared-slice-read-t6 c = search needs
 
-cast-t7 : tie.Need-cast-t7
+add-t7 : tie.Need-add-t7
+add-t7 c = search needs
+
+mul-t8 : tie.Need-mul-t8
+mul-t8 c = search needs
+
+shared-slice-read-t10 : tie.Need-shared-slice-read-t10
+shared-slice-read-t10 c = search needs
+
+add-t11 : tie.Need-add-t11
+add-t11 c = search needs
+
+mul-t12 : tie.Need-mul-t12
+mul-t12 c = search needs
+
+shared-slice-read-t14 : tie.Need-shared-slice-read-t14
+shared-slice-read-t14 c = search needs
+
+cast-t15 : tie.Need-cast-t15
 unfolding channelAt
-cast-t7 c = record { fits = omega (arith, channel-fit _ (c .before .pre .1) .width) }
+cast-t15 c = record { fits = omega (arith, channel-fit _ (c .before .before .before .pre .1) .hshift) }
 
-add-t8 : tie.Need-add-t8
-add-t8 c = search needs
+add-t16 : tie.Need-add-t16
+add-t16 c = search needs
 
-mul-t9 : tie.Need-mul-t9
-mul-t9 c = search needs
+mul-t17 : tie.Need-mul-t17
+mul-t17 c = search needs
 
-shared-slice-read-t11 : tie.Need-shared-slice-read-t11
-shared-slice-read-t11 c = search needs
+shared-slice-read-t19 : tie.Need-shared-slice-read-t19
+shared-slice-read-t19 c = search needs
 
-cast-t12 : tie.Need-cast-t12
+cast-t20 : tie.Need-cast-t20
 unfolding channelAt
-cast-t12 c = record { fits = omega (arith, channel-fit _ (c .before .before .pre .1) .height) }
-
-add-t13 : tie.Need-add-t13
-add-t13 c = search needs
-
-mul-t14 : tie.Need-mul-t14
-mul-t14 c = search needs
-
-shared-slice-read-t16 : tie.Need-shared-slice-read-t16
-shared-slice-read-t16 c = search needs
-
-cast-t17 : tie.Need-cast-t17
-unfolding channelAt
-cast-t17 c = record { fits = omega (arith, channel-fit _ (c .before .before .before .pre .1) .hshift) }
-
-add-t18 : tie.Need-add-t18
-add-t18 c = search needs
-
-mul-t19 : tie.Need-mul-t19
-mul-t19 c = search needs
-
-shared-slice-read-t21 : tie.Need-shared-slice-read-t21
-shared-slice-read-t21 c = search needs
-
-cast-t22 : tie.Need-cast-t22
-unfolding channelAt
-cast-t22 c = record { fits = omega (arith, channel-fit _ (c .before .before .before .before .pre .1) .vshift) }
+cast-t20 c = record { fits = omega (arith, channel-fit _ (c .before .before .before .before .pre .1) .vshift) }
 
 returns : tie.Need-returns
 unfolding channelAt
@@ -70,17 +62,15 @@ channel-at-spec =
     mul-at
     mul-t4
     shared-slice-read-t6
-    cast-t7
-    add-t8
-    mul-t9
-    shared-slice-read-t11
-    cast-t12
-    add-t13
-    mul-t14
-    shared-slice-read-t16
-    cast-t17
-    add-t18
-    mul-t19
-    shared-slice-read-t21
-    cast-t22
+    add-t7
+    mul-t8
+    shared-slice-read-t10
+    add-t11
+    mul-t12
+    shared-slice-read-t14
+    cast-t15
+    add-t16
+    mul-t17
+    shared-slice-read-t19
+    cast-t20
     returns)

@@ -4,13 +4,13 @@ use borrow.Author.Needs.{needs}
 use Rattle.list.proofs.Asking.{no, yes}
 use Rattle.numbered.specs.Numbered as N
 use Rattle.numbered.specs.Numbered.{channelNumbers, groups, channelAt}
-use Rattle.numbered.specs.Arrays.{fieldsFit}
+use Rattle.numbered.specs.Arrays.{shiftsFit}
 use Rattle.numbered.proofs.Tested.{Tested, tested-none, tested-more, tested-stop, tested-all}
 use Rattle.numbered.proofs.channels_fit.Statement.{statement}
 use Rattle.numbered.proofs.channels_fit.Tie as tie
 
 abbrev Inv-loop : tie.InvT-loop
-Inv-loop channels count k₀ k = Tested (channelAt channels) fieldsFit (groups channelNumbers channels) k
+Inv-loop channels count k₀ k = Tested (channelAt channels) shiftsFit (groups channelNumbers channels) k
 
 abbrev μ-loop : tie.MeasureT-loop
 μ-loop channels count k₀ k = count - k
@@ -18,14 +18,14 @@ abbrev μ-loop : tie.MeasureT-loop
 loop-holds : tie.Need-loop-holds Inv-loop μ-loop
 loop-holds c = tested-none _ _ _
 
-channel-fits-requires : tie.Need-channel-fits-requires Inv-loop μ-loop
-channel-fits-requires c κs = search needs
+shifts-fit-requires : tie.Need-shifts-fit-requires Inv-loop μ-loop
+shifts-fit-requires c κs = search needs
 
 returns : tie.Need-returns Inv-loop μ-loop
 unfolding N.channelsOf
 returns c =
     let q = c .before .before .before in
-    tested-stop _ _ _ (q .loop .k) (search needs) (q .loop .inv) (no (c .before .channel-fits .ensures) (c .if1 .taken))
+    tested-stop _ _ _ (q .loop .k) (search needs) (q .loop .inv) (no (c .before .shifts-fit .ensures) (c .if1 .taken))
 
 add-k : tie.Need-add-k Inv-loop μ-loop
 add-k c = search needs
@@ -36,7 +36,7 @@ loop-less c = search needs
 loop-again : tie.Need-loop-again Inv-loop μ-loop
 loop-again c =
     let q = c .before .before .before in
-    tested-more _ _ _ (q .loop .k) (search needs) (q .loop .inv) (yes (c .before .channel-fits .ensures) (c .if1 .left))
+    tested-more _ _ _ (q .loop .k) (search needs) (q .loop .inv) (yes (c .before .shifts-fit .ensures) (c .if1 .left))
 
 returns-2 : tie.Need-returns-2 Inv-loop μ-loop
 unfolding N.channelsOf
@@ -49,7 +49,7 @@ channels-fit-spec =
     Inv-loop
     μ-loop
     loop-holds
-    channel-fits-requires
+    shifts-fit-requires
     returns
     add-k
     loop-less
