@@ -1,0 +1,144 @@
+-- Bytes without a field of tag 3: field by field they are read as before, every channel read is no strip, and list and steps are judged as
+-- before. Assumes nothing.
+use mathlib.Core.Path.{_≡_, refl, sym, ap, _∙_}
+use mathlib.Core.Bool.{Bool, true, false, cond, _&&_, not, and-eq-true-iff}
+use mathlib.Core.List.{List, [], _∷_, _++_}
+use Prim.Native.Nat.{ℕ, zero, suc, _≤_}
+use native.Mathlib.Omega.{arith}
+use lib.Dec.{eqb, leb}
+use lib.ListN.{length, drop}
+use borrow.Author.Tests.{eqb-true, leb-true, not-true}
+use Rattle.numbers.specs.Numbers.{refusedCount}
+use Rattle.channel.specs.declared.Channel.{Channel}
+use Rattle.channel.specs.Channel.{isMeta, shiftsAllowed, isAllowed}
+use Rattle.list.specs.declared.Step.{Step}
+use Rattle.list.specs.Tables.{all}
+use Rattle.list.specs.Lists as Lists
+use Rattle.list.specs.Lists.{maxChannels, maxSteps, channels}
+use Rattle.list.specs.Questions as Questions
+use Rattle.list.specs.Questions.{ask, countAllowed, metaFirst}
+use Rattle.list.proofs.Maps.{all-append}
+use Rattle.list.proofs.Packed.{channels-packed}
+use Rattle.plan.specs.Steps as S
+use Rattle.plan.specs.Plans as Plans
+use Rattle.plan.proofs.Turns.{by-test}
+use Rattle.record.specs.Bytes.{stepSize, channelSize, isStrip}
+use Rattle.record.specs.Reading as New
+use Rattle.record.specs.Reading.{Form, asked, fieldSize, hasStripTag, shortChannel, fieldChannel, fieldStep, finished}
+use Rattle.record.specs.Laws.{AreBytes}
+use Rattle.record.proofs.WrittenRead.{dropped}
+use Rattle.before.specs.Reading as Before
+use Rattle.before.specs.Laws.{noStripIn, noStrip, isShort}
+use Rattle.before.proofs.Fields.{short-allowed, channel-same, channel-short, is-step-same, judge-same, step-size, channel-size}
+
+-- ---- the fields
+-- a field that is not the end: it has another tag, and so have those after it
+no-strip-field : (turns : ℕ) (bytes : List ℕ) → eqb (length bytes) 0 ≡ false → noStripIn (suc turns) bytes ≡ true
+    → (hasStripTag bytes ≡ false) × (noStripIn turns (drop (fieldSize bytes) bytes) ≡ true)
+no-strip-field turns bytes e h =
+    let a = and-eq-true-iff (not (hasStripTag bytes)) (noStripIn turns (drop (fieldSize bytes) bytes)) .0 (rw e at h) in
+    (not-true (hasStripTag bytes) (a .0), a .1)
+
+-- where the fields after this one are read as before, so are these
+module _ (turns : ℕ) (bytes : List ℕ) (cs : List Channel) (ss : List Step) (b : AreBytes bytes) (e : eqb (length bytes) 0 ≡ false) (t : hasStripTag bytes ≡ false)
+    (next : (ds : List Channel) (ts : List Step) → New.readFields turns (drop (fieldSize bytes) bytes) ds ts ≡ Before.readFields turns (drop (fieldSize bytes) bytes) ds ts) where
+  judged : New.answerOf bytes cs ss ≡ Before.answerOf bytes cs ss
+  judged = judge-same bytes b t (length cs) (all isMeta cs) (length ss)
+
+  accepted-same : New.answerOf bytes cs ss ≡ 0
+      → cond (New.isStep bytes)
+      (New.readFields turns (drop (fieldSize bytes) bytes) cs (ss ++ (fieldStep bytes ∷ [])))
+      (New.readFields turns (drop (fieldSize bytes) bytes) (cs ++ (fieldChannel bytes ∷ [])) ss)
+      ≡ cond (Before.isStep bytes)
+      (Before.readFields turns (drop stepSize bytes) cs (ss ++ (fieldStep bytes ∷ [])))
+      (Before.readFields turns (drop channelSize bytes) (cs ++ (shortChannel bytes ∷ [])) ss)
+  accepted-same z =
+      by-test (New.isStep bytes)
+      (λ k.
+      let size = step-size bytes b t (length cs) (all isMeta cs) (length ss) z k in
+      rw (← is-step-same bytes b t, k) (next cs (ss ++ fieldStep bytes ∷ []) ∙ rw size))
+      (λ k.
+      let size = channel-size bytes b t (length cs) (all isMeta cs) (length ss) z k in
+      rw (← is-step-same bytes b t, k) (next (cs ++ fieldChannel bytes ∷ []) ss ∙ rw (size, channel-same bytes b t)))
+
+  turn-same : New.readFields (suc turns) bytes cs ss ≡ Before.readFields (suc turns) bytes cs ss
+  turn-same =
+      by-test (eqb (New.answerOf bytes cs ss) 0)
+      (λ z. rw (e, ← judged, z) (accepted-same (eqb-true (New.answerOf bytes cs ss) 0 z)))
+      (λ z. rw (e, ← judged, z))
+
+fields-same : (turns : ℕ) (bytes : List ℕ) (cs : List Channel) (ss : List Step) → AreBytes bytes → noStripIn turns bytes ≡ true
+    → New.readFields turns bytes cs ss ≡ Before.readFields turns bytes cs ss
+fields-same zero bytes cs ss b h = refl
+fields-same (suc turns) bytes cs ss b h =
+    by-test (eqb (length bytes) 0) (λ e. rw e)
+    (λ e.
+    let f = no-strip-field turns bytes e h in
+    turn-same turns bytes cs ss b e (f .0)
+    (λ ds ts. fields-same turns (drop (fieldSize bytes) bytes) ds ts (dropped bytes (fieldSize bytes) b) (f .1)))
+
+pub form-same : (bytes : List ℕ) → AreBytes bytes → noStrip bytes ≡ true → New.formOf bytes ≡ Before.formOf bytes
+unfolding New.formOf Before.formOf noStrip
+form-same bytes b h = fields-same (length bytes) bytes [] [] b h
+
+-- ---- what is read has no strip
+asked-short : (t : Bool) (number : ℕ) (next : Form) → all isShort (next .channels) ≡ true → all isShort (asked t number next .channels) ≡ true
+asked-short true number next h = h
+asked-short false number next h = refl
+
+cond-short : (t : Bool) (x y : Form) → all isShort (x .channels) ≡ true → all isShort (y .channels) ≡ true → all isShort (cond t x y .channels) ≡ true
+cond-short true x y a b = a
+cond-short false x y a b = b
+
+with-channel : (bytes : List ℕ) (cs : List Channel) → AreBytes bytes → hasStripTag bytes ≡ false → all isShort cs ≡ true
+    → all isShort (cs ++ (fieldChannel bytes ∷ [])) ≡ true
+with-channel bytes cs b t short =
+    all-append isShort cs (fieldChannel bytes ∷ []) short (and-eq-true-iff (isShort (fieldChannel bytes)) true .1 (channel-short bytes b t, refl))
+
+fields-short : (turns : ℕ) (bytes : List ℕ) (cs : List Channel) (ss : List Step) → AreBytes bytes → noStripIn turns bytes ≡ true → all isShort cs ≡ true
+    → all isShort (New.readFields turns bytes cs ss .channels) ≡ true
+fields-short zero bytes cs ss b h short = asked-short (leb 1 (length cs)) refusedCount _ short
+fields-short (suc turns) bytes cs ss b h short =
+    by-test (eqb (length bytes) 0)
+    (λ e. rw e (asked-short (leb 1 (length cs)) refusedCount _ short))
+    (λ e.
+    let f = no-strip-field turns bytes e h in
+    let d = dropped bytes (fieldSize bytes) b in
+    rw e
+    (asked-short (eqb (New.answerOf bytes cs ss) 0) (New.answerOf bytes cs ss) _
+    (cond-short (New.isStep bytes) _ _
+    (fields-short turns (drop (fieldSize bytes) bytes) cs _ d (f .1) short)
+    (fields-short turns (drop (fieldSize bytes) bytes) _ ss d (f .1) (with-channel bytes cs b (f .0) short)))))
+
+pub form-short : (bytes : List ℕ) → AreBytes bytes → noStrip bytes ≡ true → all isShort (New.formOf bytes .channels) ≡ true
+unfolding New.formOf noStrip
+form-short bytes b h = fields-short (length bytes) bytes [] [] b h refl
+
+-- ---- a list without a strip and its steps are judged as before
+all-allowed-same : (cs : List Channel) → all isShort cs ≡ true → all isAllowed cs ≡ all shiftsAllowed cs
+all-allowed-same [] h = refl
+all-allowed-same (c ∷ cs) h =
+    let a = and-eq-true-iff (isShort c) (all isShort cs) .0 h in
+    rw (short-allowed c (a .0), all-allowed-same cs (a .1))
+
+allowed-same : (cs : List Channel) → all isShort cs ≡ true → Questions.channelsAllowed cs ≡ Before.channelsAllowed cs
+unfolding Questions.channelsAllowed Before.channelsAllowed
+allowed-same cs h = rw (all-allowed-same cs h)
+
+module _ (cs : List Channel) (ss : List Step) (short : all isShort cs ≡ true) where
+  few : (countAllowed (Lists.packed cs .count) && leb (S.packed ss .count) maxSteps) ≡ true → length cs ≤ maxChannels
+  unfolding Questions.countAllowed Lists.packed
+  few t =
+      let a = and-eq-true-iff (countAllowed (length cs)) (leb (S.packed ss .count) maxSteps) .0 t in
+      leb-true (length cs) maxChannels (and-eq-true-iff (leb 1 (length cs)) (leb (length cs) maxChannels) .0 (a .0) .1)
+
+  judge-form-same : Plans.judgeForm (Lists.packed cs) (S.packed ss) ≡ Before.judgeForm (Lists.packed cs) (S.packed ss)
+  unfolding Plans.judgeForm Before.judgeForm
+  judge-form-same =
+      by-test (countAllowed (Lists.packed cs .count) && leb (S.packed ss .count) maxSteps)
+      (λ t. rw (t, allowed-same (channels (Lists.packed cs)) (rw (channels-packed cs (few t)) short)))
+      (λ t. rw t)
+
+  pub judge-plan-same : Plans.judgePlan (Lists.packed cs) (S.packed ss) ≡ Before.judgePlan (Lists.packed cs) (S.packed ss)
+  unfolding Plans.judgePlan Before.judgePlan
+  judge-plan-same = rw judge-form-same
