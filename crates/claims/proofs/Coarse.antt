@@ -6,7 +6,7 @@ use Prim.Native.Nat.{ℕ, _+_}
 use lib.ListN.{length}
 use Rattle.channel.specs.declared.Channel.{Channel}
 use Rattle.channel.specs.Channel as Channel
-use Rattle.channel.specs.Channel.{shiftsAllowed, sidesFit}
+use Rattle.channel.specs.Channel.{isAllowed}
 use Rattle.list.specs.declared.Step.{Step}
 use Rattle.list.specs.Lists as Lists
 use Rattle.list.specs.Tables.{all}
@@ -47,20 +47,20 @@ module _ (bytes : List ℕ) (z : readAnswer bytes ≡ 0) where
   reached-metas : metaFirst (reachedOf bytes) ≡ true
   unfolding Questions.channelsAllowed
   reached-metas =
-      and-eq-true-iff (all shiftsAllowed (reachedOf bytes)) (metaFirst (reachedOf bytes)) .0
+      and-eq-true-iff (all isAllowed (reachedOf bytes)) (metaFirst (reachedOf bytes)) .0
       (plan-accepted (stepsOf bytes) (channelsOf bytes) (channels-accepted bytes z) (steps-judged bytes z) .allowed) .1
 
   reached-plain : noMeta (channelsOf bytes) ≡ true → noMeta (reachedOf bytes) ≡ true
   reached-plain = plan-plain (stepsOf bytes) (channelsOf bytes) (channels-accepted bytes z) (steps-judged bytes z)
 
 -- ---- rows: what a record is read as is known by its own laws, and the plan is computed
-module _ (cs : List Channel) (ss : List Step) (sides : all sidesFit cs ≡ true) (ok : judgePlan (Lists.packed cs) (Steps.packed ss) ≡ 0) where
+module _ (cs : List Channel) (ss : List Step) (ok : judgePlan (Lists.packed cs) (Steps.packed ss) ≡ 0) where
   counts : (n : ℕ) → coarseCount stoppingSide (steppedAll (meant ss cs) cs) ≡ n → Counts cs ss n
-  counts n e = (record-accepted cs ss sides ok, ap (coarseCount stoppingSide) (record-reached cs ss sides ok) ∙ e)
+  counts n e = (record-accepted cs ss ok, ap (coarseCount stoppingSide) (record-reached cs ss ok) ∙ e)
 
 pub coarse : Coarse
 unfolding
-    Channel.isMeta Channel.shiftsAllowed Channel.samples Channel.sidesFit
+    Channel.isMeta Channel.shiftsAllowed Channel.samples Channel.sidesFit Channel.isAllowed
     Lists.channels Lists.packed Lists.raised Lists.average Lists.residual Lists.stepped
     Questions.countAllowed Questions.channelsAllowed Questions.totalAllowed Questions.rangeAllowed Questions.kindsAlike Questions.placeAllowed Questions.hasSides Questions.shiftsKept Questions.roomLeft Questions.judgeStep
     Steps.flagsOf Steps.flagsAllowed Steps.steps Steps.allFlags Steps.packed
@@ -72,8 +72,8 @@ coarse =
       printed = last-line;
       metas-and-small = λ bytes z. count-laws stoppingSide (reachedOf bytes) .parts (reached-metas bytes z);
       as-before = λ bytes z n. count-laws stoppingSide (reachedOf bytes) .as-before (reached-plain bytes z n);
-      palette-first = counts (palette 300 1 ∷ channel 20 9 ∷ []) [] refl refl 3 refl;
-      palette-squeezed = counts (palette 300 1 ∷ palette 40 2 ∷ channel 20 9 ∷ []) (step true true 1 1 ∷ []) refl refl 3 refl;
-      palettes-alone = counts (palette 300 1 ∷ palette 40 2 ∷ []) (step true true 0 1 ∷ step false true 2 1 ∷ []) refl refl 4 refl;
-      no-palette = counts (channel 20 9 ∷ []) [] refl refl 2 refl;
+      palette-first = counts (palette 300 1 ∷ channel 20 9 ∷ []) [] refl 3 refl;
+      palette-squeezed = counts (palette 300 1 ∷ palette 40 2 ∷ channel 20 9 ∷ []) (step true true 1 1 ∷ []) refl 3 refl;
+      palettes-alone = counts (palette 300 1 ∷ palette 40 2 ∷ []) (step true true 0 1 ∷ step false true 2 1 ∷ []) refl 4 refl;
+      no-palette = counts (channel 20 9 ∷ []) [] refl 2 refl;
     }

@@ -182,7 +182,7 @@ module _ (rest : List ℕ) where
   first-outside h = first-refused 1 (254 ∷ 15 ∷ rest) refusedOutside (rw (long, h)) (λ e. absurd (omega arith))
 
   first-inside : leb 4097 (length (1 ∷ 254 ∷ 15 ∷ rest)) ≡ true → readAnswer (1 ∷ 254 ∷ 15 ∷ rest) ≡ refusedField
-  unfolding Reading.fieldInside Reading.isChannel Reading.isStep Reading.judgeField
+  unfolding Reading.fieldInside Reading.hasHead Reading.isChannel Reading.isStep Reading.judgeField
   first-inside h = first-refused 1 (254 ∷ 15 ∷ rest) refusedField (rw (long, h)) (λ e. absurd (omega arith))
 
 -- of 4,097 bytes the first 4,096 are judged

@@ -25,14 +25,14 @@ unfolding
     Tend.opposite Tend.slope Tend.clampBefore Tend.clampAfter Tend.negatedIf Tend.monotone Tend.tendency
     Pair.difference Pair.firstOf Pair.secondOf Pair.first Pair.second
     Line.nextAverage Line.before Line.sample Uncut.lineOf Uncut.outputAt Uncut.uncut
-    Channel.isMeta Channel.shiftsAllowed Channel.samples
+    Channel.isMeta Channel.shiftsAllowed Channel.sidesFit Channel.isAllowed Channel.samples
     Rect.groupAllowed Rect.tile Rect.tileUnlessMeta Rect.byKinds Rect.rectOf
     Lists.channels Lists.packed Lists.raised Lists.average Lists.residual Lists.stepped
     Questions.countAllowed Questions.channelsAllowed Questions.totalAllowed Questions.rangeAllowed Questions.kindsAlike Questions.placeAllowed Questions.hasSides Questions.shiftsKept Questions.roomLeft Questions.judgeStep
     Steps.flagsOf Steps.flagsAllowed Steps.steps Steps.allFlags Steps.packed
     Default.metaCount Default.chroma Default.rounds Default.allChannels Default.defaultSteps Coarse.isCoarse Coarse.coarseCount
     Plans.hasOther Plans.meant Plans.meantAllowed Plans.judgeForm Plans.judgeMeant Plans.judgePlan
-    Reading.fieldInside Reading.isChannel Reading.isStep Reading.channelAllowed Reading.judgeChannelField Reading.judgeStepField Reading.judgeField Reading.formOf
+    Reading.fieldChannel Reading.fieldInside Reading.hasHead Reading.isChannel Reading.isStep Reading.channelAllowed Reading.tagAllowed Reading.judgeChannelField Reading.judgeStepField Reading.judgeField Reading.formOf
     Records.readAnswer
     Text.decimal Text.stepLine Text.channelLine
     Listing.planText Listing.listing

@@ -16,7 +16,6 @@ use Rattle.line.specs.Forward as Forward
 use Rattle.channel.specs.declared.Channel.{Channel}
 use Rattle.channel.specs.Channel as C
 use Rattle.list.specs.declared.Step.{Step}
-use Rattle.list.specs.Tables.{all}
 use Rattle.list.specs.Lists as Lists
 use Rattle.list.specs.Questions as Questions
 use Rattle.plan.specs.Steps as Steps
@@ -82,7 +81,6 @@ record Computed : Type 0 where
   pub coarse-20 : coarseOf record20by9 ≡ 2
   pub every-20 : everyChannel record20by9 ≡ 4
   pub before-20 : beforeThePlan record20by9 ≡ 0
-  pub seats-fit : all C.sidesFit seats ≡ true
   pub seats-judged : Plans.judgePlan (Lists.packed seats) (Steps.packed seatStep) ≡ 0
   pub coarse-seats : coarseCount stoppingSide seatsLeft ≡ 1
   pub small-seats : Default.leading (isSmall stoppingSide) seatsLeft ≡ 0
@@ -97,13 +95,13 @@ unfolding
     Pair.difference Pair.firstOf Pair.secondOf Pair.first Pair.second Pair.average Pair.residualOf Pair.residual
     Line.nextAverage Line.before Line.sample Uncut.lineOf Uncut.outputAt Uncut.uncut
     Forward.averageAt Forward.nextAt Forward.prevAt Forward.residualAt Forward.averagesOf Forward.residualsOf
-    C.isMeta C.shiftsAllowed C.samples C.sidesFit
+    C.isMeta C.shiftsAllowed C.sidesFit C.isAllowed C.samples
     Lists.channels Lists.packed Lists.raised Lists.average Lists.residual Lists.stepped
     Questions.countAllowed Questions.channelsAllowed Questions.totalAllowed Questions.rangeAllowed Questions.kindsAlike Questions.placeAllowed Questions.hasSides Questions.shiftsKept Questions.roomLeft Questions.judgeStep
     Steps.flagsOf Steps.flagsAllowed Steps.steps Steps.allFlags Steps.packed
     Default.metaCount Default.chroma Default.rounds Default.allChannels Default.defaultSteps Count.isCoarse Count.coarseCount
     Plans.hasOther Plans.meant Plans.meantAllowed Plans.judgeForm Plans.judgeMeant Plans.judgePlan
-    Reading.fieldInside Reading.isChannel Reading.isStep Reading.channelAllowed Reading.judgeChannelField Reading.judgeStepField Reading.judgeField Reading.formOf
+    Reading.fieldChannel Reading.fieldInside Reading.hasHead Reading.isChannel Reading.isStep Reading.channelAllowed Reading.tagAllowed Reading.judgeChannelField Reading.judgeStepField Reading.judgeField Reading.formOf
     Records.readAnswer
     Runs.channelBack Runs.backParts Runs.stepBack Runs.channelAverages Runs.channelResiduals Runs.forwardParts Runs.stepForward
     Entry.answer Entry.pictureOf Entry.pyramidOf
@@ -128,7 +126,6 @@ computed =
       coarse-20 = refl;
       every-20 = refl;
       before-20 = refl;
-      seats-fit = refl;
       seats-judged = refl;
       coarse-seats = refl;
       small-seats = refl;
@@ -153,12 +150,12 @@ miscounts f xs m n z ef ec h all = h (sym ef ∙ all xs z ∙ ec)
 -- counts of the list with a palette, whose record is read as it was written
 seats-reached : reachedOf (recordOf seats seatStep) ≡ seatsLeft
 unfolding seatsLeft
-seats-reached = record-reached seats seatStep (computed .seats-fit) (computed .seats-judged)
+seats-reached = record-reached seats seatStep (computed .seats-judged)
 
 miscounts-seats : (count : List Channel → ℕ) (n : ℕ) → count seatsLeft ≡ n → (n ≡ 1 → ⊥) → CountRefuted (λ xs. count (reachedOf xs))
 miscounts-seats count n e h =
     miscounts (λ xs. count (reachedOf xs)) (recordOf seats seatStep) n 1
-    (record-accepted seats seatStep (computed .seats-fit) (computed .seats-judged))
+    (record-accepted seats seatStep (computed .seats-judged))
     (ap count seats-reached ∙ e)
     (ap (coarseCount stoppingSide) seats-reached ∙ computed .coarse-seats)
     h

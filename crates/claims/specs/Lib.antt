@@ -1,4 +1,5 @@
 pub mod Table
 pub mod Demands
 pub mod Coarse
+pub mod Strips
 pub mod Wrong
