@@ -9,8 +9,8 @@ true` or `false` of `is_meta_or_small(8)` (small.py makes these). A channel is `
 FIRST NUMBER`. Document 01 refuses some of what the Rust lets through: INSTEAD has every such difference. The other cases
 are made here by the papers' rules (rules.py), those that they name themselves as rows with the answer written out.
 
-The stream is samples of four bytes, least byte first. A case is its source (1 the Rust, 2 the rules), its kind (1 to 5
-as below), how many samples follow, and these:
+The stream is numbers of four bytes, least byte first. A case is its source (1 the Rust, 2 the rules), its kind (1 to 5
+as below), how many numbers follow, and these:
     step    list, step, answer, list afterwards if that is 0
     plan    list, plan, answer, list afterwards if that is 0
     default list, answer, plan
@@ -26,8 +26,7 @@ import struct
 import sys
 
 import rules
-from rules import (MAX_CHANNELS, MAX_SAMPLES, MAX_SHIFT, MAX_STEPS, META, coarse_count, default_plan, is_meta,
-                   total)
+from rules import (MAX_CHANNELS, MAX_SAMPLES, MAX_STEPS, META, coarse_count, default_plan, is_allowed, is_meta, total)
 
 RUST, OWN = 1, 2
 STEP, PLAN, DEFAULT, COARSE, MEANT = 1, 2, 3, 4, 5
@@ -38,8 +37,7 @@ def judge_list(channels):
     if not 1 <= len(channels) <= MAX_CHANNELS:
         return 3
     metas = [is_meta(c) for c in channels]
-    allowed = all(m or (c[2] <= MAX_SHIFT and c[3] <= MAX_SHIFT) for m, c in zip(metas, channels))
-    if not allowed or metas != sorted(metas, reverse=True):
+    if not all(map(is_allowed, channels)) or metas != sorted(metas, reverse=True):
         return 4
     return 5 if total(channels) > MAX_SAMPLES else 0
 
@@ -111,7 +109,7 @@ cases = {}
 
 def put(source, kind, *parts):
     samples = [x for part in parts for x in part]
-    cases.setdefault(struct.pack('<%di' % (len(samples) + 3), source, kind, len(samples), *samples))
+    cases.setdefault(struct.pack('<%dI' % (len(samples) + 3), source, kind, len(samples), *samples))
 
 
 def array_samples(arrays, zeros, size):
@@ -277,7 +275,26 @@ STEP_ROWS = """
 4096 4096 0 0                      | h in 0 1        | 0  | samples at the limit
 4096 4096 0 0 ; 1 1 0 0            | h in 0 1        | 5  | one sample more
 1 1 m m ; 4096 4096 0 0            | h in 1 1        | 5  | meta samples count
-256 * 65535 65535 0 0              | h in 0 1        | 5  | the largest sum
+256 * 65535 65535 0 0              | h in 0 1        | 5  | a large sum
+65535 1 0 0                        | h in 0 1        | 0  | the largest side of tag 1
+65536 1 0 0                        | h in 0 1        | 0  | a strip
+1 65536 29 0                       | h out 0 1       | 0  | a strip across
+1048575 16 0 0                     | v in 0 1        | 0  | the largest strip
+16 1048575 0 0                     | v in 0 1        | 0  | and across
+1048575 1 m m                      | h in 0 1        | 0  | a meta strip
+1048575 17 0 0                     | h in 0 1        | 5  | a strip of too many samples
+65536 65536 0 0                    | h in 0 1        | 5  | a product of 33 bits
+256 * 1048575 1048575 0 0          | h in 0 1        | 5  | the largest sum
+1048576 1 0 0                      | h in 0 1        | 4  | a side above the limit
+1 1048576 0 0                      | v out 0 1       | 4  | a side above the limit
+1048576 1 m m                      | h in 0 1        | 4  | a meta side above the limit
+1048576 0 0 0                      | h in 0 1        | 4  | a side above the limit of no sample
+4294967295 1 0 0                   | h in 0 1        | 4  | the largest number
+6 5 0 0 ; 4294967295 4294967295 0 0 | h in 0 1       | 4  | 4 before 5, outside the range
+256 * 4294967295 4294967295 0 0    | h in 0 1        | 4  | sums past 64 bits
+257 * 1048576 1 0 0                | h in 0 1        | 3  | 3 before 4
+65536 0 0 0                        | h in 0 1        | 9  | a strip of no sample
+65536 1 30 0                       | h in 0 1        | 10 | a strip's shift of 31
 257 * 4 4 31 0                     | h in 0 1        | 3  | 3 before 4
 4 4 31 0 ; 65535 65535 0 0         | h in 0 1        | 4  | 4 before 5
 65535 65535 0 0                    | h in 0 0        | 5  | 5 before 6
@@ -302,7 +319,7 @@ def step_rows():
 
 
 plain, wide, tall, meta, late = (6, 5, 0, 0), (9, 4, 1, 0), (4, 9, 0, 1), (7, 3, META, META), (600, 9, 25, 0)
-junk = [(65535, 0, 31, 255), (3, 9, 0, 0), (0, 65535, 255, 255)] + [(65535, 65535, 255, 1)] * MAX_CHANNELS
+junk = [(4294967295, 0, 31, 255), (3, 9, 0, 0), (0, 65535, 255, 255)] + [(65535, 1048576, 255, 1)] * MAX_CHANNELS
 
 
 def plan_rows():
@@ -399,12 +416,18 @@ def sweeps():
         put_coarse(flat)
 
     # default plans: chroma or not, meta channels before, second channels that differ, counts, sides up to the largest
-    sizes = (1, 1), (1, 9), (9, 1), (2, 2), (8, 8), (8, 9), (9, 8), (9, 9), (17, 16), (65535, 1), (1, 65535), (300, 4000)
+    sizes = ((1, 1), (1, 9), (9, 1), (2, 2), (8, 8), (8, 9), (9, 8), (9, 9), (17, 16), (65535, 1), (1, 65535), (300, 4000),
+             (65536, 1), (5, 1048575))
     for w, h in sizes:
         first, wider, taller = (w, h, 0, 0), (w % 65535 + 1, h, 0, 0), (w, h % 65535 + 1, 0, 0)
         for others in ([], [first], [first] * 2, [first, tall], [wider] * 2, [taller] * 2, [tall, first]):
             own_default(held([first] + others))
         own_default(held([meta] * 2 + [first] * 3))
+    for w, h in ((1048575, 16), (16, 1048575), (1048575, 17), (1048576, 1), (1, 4294967295), (65536, 0), (0, 1048575), (4097, 4095)):
+        own_default(held([(w, h, 0, 0)]))
+    longest = (4097, 2047, 0, 0)
+    assert len(default_plan([longest, longest, (1, 1, 0, 0)])) == 20
+    own_default(held([longest, longest, (1, 1, 0, 0)]))
     for count in (0, 1, 128, 255, 256, 257, 2147483647):
         own_default(held([(9, 9, 0, 0)] * min(count, MAX_CHANNELS), count=count))
         put_coarse(held([(8, 8, 0, 0)] * min(count, MAX_CHANNELS), count=count))

@@ -4,7 +4,7 @@ squeeze-list, each with what it prints.
 
 usage: tests/records.py > crates/record_test/stdin
 
-The rules are those of rules.py, written from document 01 alone: a record read field by field, questions 1 to 11 in their
+The rules are those of rules.py, written from the papers alone: a record read field by field, questions 1 to 11 in their
 order, the default plan, a step on a list and the coarse count. The record that the document prints is held against its
 text first.
 
@@ -15,9 +15,9 @@ of each kind goes to standard error.
 import struct
 import sys
 
-from rules import Refused, channel, coarse_count, field, is_meta, layouts, meaning, meta
+from rules import Refused, channel, coarse_count, field, is_meta, layouts, meaning, meta, short, strip
 
-KINDS = {kind: [] for kind in ['printed', 'cuts', 'refusals', 'order', 'limits', 'sizes', 'metas', 'plans', 'bytes', 'inputs']}
+KINDS = {kind: [] for kind in ['printed', 'cuts', 'refusals', 'order', 'limits', 'sizes', 'metas', 'plans', 'bytes', 'strips', 'inputs']}
 
 
 # The program squeeze-list: "judges the first 4,096 bytes of standard input".
@@ -212,6 +212,52 @@ def plans():
         case('plans', channel(*sides) * 3, 0)
 
 
+# Strips (document 02, A.8): both tags about their limits, by themselves, mixed, after a step, cut at every byte.
+
+STRIPS = [
+    (strip(65536, 1), 'steps 13|' + 'h in 0 1|' * 13 + 'channels 14|8 1 13 0|8 1 13 0|' + ''.join(
+        f'{2 ** k} 1 {16 - k} 0|' for k in range(4, 16)) + 'coarse 2|'),
+    (strip(1, 1048575) + field(2, 0, 1), 'steps 1|v in 0 1|channels 2|1 524288 0 1|1 524287 0 1|coarse 0|'),
+    (strip(1048575, 1, 255, 255) + channel(20, 9) + strip(2, 65536, 1, 2) + field(3, 0, 1) + field(0, 2, 2),
+     'steps 2|h in 0 1|v out 2 2|channels 6|524288 1 m m|524287 1 m m|20 5 0 1|2 32768 1 3|20 4 0 1|2 32768 1 3|coarse 2|'),
+    (strip(1048575, 16) + field(3, 0, 1), 'steps 1|h in 0 1|channels 2|524288 16 1 0|524287 16 1 0|coarse 0|'),
+]
+
+STRIP_REFUSALS = {
+    1: [strip(65536, 1)[:12], b'\x03\x0a\x00' + bytes(9), channel(1, 1) + b'\x03\x0a'],
+    2: [b'\x03\x06\x00' + bytes(6), b'\x01\x0a\x00' + strip(65536, 1)[3:], channel(9, 9) + field(3, 0, 1) + strip(65536, 1),
+        channel(9, 9) + field(3, 0, 1) + strip(1, 1), b'\x04\x0a\x00' + bytes(10)],
+    3: [strip(65536, 1) * 257, channel(1, 1) * 256 + strip(65536, 1), channel(1, 1) * 256 + strip(1, 1)],
+    4: [strip(65535, 65535), strip(1, 1), strip(0, 0), strip(65535, 1, 255, 255), strip(1048576, 1), strip(1, 1048576), strip(1048576, 0),
+        strip(4294967295, 1), strip(4294967295, 4294967295), strip(65536, 1, 31, 0), strip(65536, 1, 255, 0), strip(0, 1048576, 255, 255),
+        channel(9, 9) + strip(65536, 1, 255, 255), strip(65536, 1) + channel(9, 9, 255, 255), strip(1, 1) + b'\x03'],
+    5: [strip(1048575, 17), strip(65536, 65536), strip(1048575, 16) + channel(17, 1), strip(1048575, 1048575) * 256],
+    9: [strip(65536, 0), strip(0, 65536)],
+    11: [strip(65536, 1, 255, 255)],
+}
+
+
+def strips():
+    for record, expected in STRIPS:
+        assert listing(record) == expected.replace('|', '\n'), (listing(record), expected)
+        case('strips', record, 0)
+    for number, records in STRIP_REFUSALS.items():
+        for record in records:
+            case('strips', record, number)
+    mixed = strip(65536, 1, 255, 255) + short(20, 9) + strip(3, 1048575) + short(65535, 2) + field(3, 1, 2) + field(0, 0, 1)
+    for n in range(len(mixed) + 1):
+        case('strips', mixed[:n], None if n in (0, 13, 22, 35, 44, 52, 60) else 1)
+    for side in (0, 1, 65535, 65536, 1048575, 1048576, 4294967295):
+        for other in (0, 1, 16, 65535, 65536, 1048575, 1048576):
+            for shifts in ((0, 0), (255, 255), (30, 30)):
+                for c in ((side, other, *shifts), (other, side, *shifts)):
+                    case('strips', strip(*c))
+                    case('strips', strip(*c) + channel(20, 9) + field(2, 0, 1))
+    for count in (255, 256, 257):
+        case('strips', strip(65536, 1) * count + field(3, 0, 1), 0 if count == 255 else 10 if count == 256 else 3)
+        case('strips', strip(65536, 1, 10, 10) * (count - 64) + b''.join(field(1, 100 + k, 1) for k in range(64)), 10 if count == 257 else 0)
+
+
 # Long inputs, and each value of a byte of the printed record.
 
 def byte_values():
@@ -242,7 +288,8 @@ def long_field(length, record=b''):
 
 def inputs():
     longest = channel(65535, 1, 10, 10) * 192 + b''.join(field(1, 100 + k, 1) for k in range(64))
-    for record in (PRINTED, LONG[:27], longest):
+    widest = strip(65536, 1, 10, 10) * 192 + b''.join(field(1, 100 + k, 1) for k in range(64))
+    for record in (PRINTED, LONG[:27], longest, widest):
         case('inputs', record, 0)
     for start, refusal in ((b'', 3), (b'\x00', 1), (b'\x01', 1), (PRINTED[:-1], 1), (PRINTED + b'\x01', 1)):
         case('inputs', start, refusal)
@@ -259,7 +306,7 @@ def inputs():
 
 
 if __name__ == '__main__':
-    for make in (printed, cuts, refusals, order, limits, sizes, metas, palettes, plans, byte_values, inputs):
+    for make in (printed, cuts, refusals, order, limits, sizes, metas, palettes, plans, byte_values, strips, inputs):
         make()
     out = sys.stdout.buffer
     for kind, cases in KINDS.items():

@@ -6,21 +6,23 @@ usage: tests/rects.py RECT.TXT > crates/rect_test/stdin
 RECT.TXT has the published Rust's answers, one case to a line, `rect W H HS VS OUTPUT STORED GROUP GX GY => ok X Y W H`
 or `=> panic`, with `m m` for the shifts of a meta channel. A panic is our refusal 14, and so are the four zeros that
 the Rust gives for an empty LF on HF. After them comes a walk over every pair of kinds 0 to 3 with group dimensions that
-are allowed and one that is not, small and large channels, and shifts up to, at and past the largest; its answers are
-those of `expected`, the rule of document 01 written here a second time. Each case is fourteen numbers of four bytes,
-least byte first: the nine of the call (meta is 255 255), the answer, x, y, width, height.
+are allowed and one that is not, small and large channels, and shifts up to, at and past the largest, and one over
+strips; its answers are those of `expected`, the papers' rule written here a second time. Each case is fourteen numbers
+of four bytes, least byte first: the nine of the call (meta is 255 255), the answer, x, y, width, height.
 """
+import itertools
 import struct
 import sys
 
 NONE, LF, HF = 0, 1, 2
 META = 255
+MAX_SIDE = 1_048_575
 
 
 def expected(w, h, hs, vs, output, stored, group, gx, gy):
-    """Document 01, questions 4 and 13 and "Tiles"."""
+    """Document 01, questions 4 and 13 and "Tiles"; document 02, A.8: a side above the limit."""
     meta = (hs, vs) == (META, META)
-    if not meta and max(hs, vs) > 30:
+    if max(w, h) > MAX_SIDE or not meta and max(hs, vs) > 30:
         return (4, 0, 0, 0, 0)
     if group not in (128, 256, 512, 1024):
         return (14, 0, 0, 0, 0)
@@ -54,15 +56,14 @@ SHIFTS = [(0, 0), (1, 3), (7, 10), (10, 13), (30, 30), (30, 31), (31, 0), (META,
 # width, height, gx, gy
 PLACES = [(0, 1, 0, 0), (1, 0, 0, 0), (1, 1, 0, 0), (2, 1, 0, 0), (2, 2, 1, 1), (257, 129, 1, 1), (3000, 200, 9, 0),
           (65535, 65535, 7, 7), (65535, 65535, 7, 63), (65535, 65535, 65535, 65535)]
+STRIPS = [(65536, 1, 63, 0), (1, 65536, 0, 511), (1048575, 16, 127, 0), (1048575, 1048575, 8191, 8191),
+          (1048575, 1048575, 65535, 7), (1048576, 1, 0, 0), (1, 1048576, 0, 0), (4294967295, 4294967295, 0, 0)]
 
 
-def walk():
-    for output in range(4):
-        for stored in range(4):
-            for group in (128, 256, 512, 1024, 100):
-                for shifts in SHIFTS:
-                    for w, h, gx, gy in PLACES:
-                        yield (w, h, *shifts, output, stored, group, gx, gy)
+def walk(groups, shifts, places):
+    for output, stored, group, both in itertools.product(range(4), range(4), groups, shifts):
+        for w, h, gx, gy in places:
+            yield (w, h, *both, output, stored, group, gx, gy)
 
 
 for line in open(sys.argv[1]):
@@ -70,5 +71,7 @@ for line in open(sys.argv[1]):
     if answer != expected(*case):
         sys.exit(f'the Rust and document 01 differ: {line.strip()}, {expected(*case)}')
     sys.stdout.buffer.write(struct.pack('<14I', *case, *answer))
-for case in walk():
+every = walk((128, 256, 512, 1024, 100), SHIFTS, PLACES)
+strips = walk((128, 1024), [(0, 0), (1, 3), (31, 0), (META, META)], STRIPS)
+for case in itertools.chain(every, strips):
     sys.stdout.buffer.write(struct.pack('<14I', *case, *expected(*case)))

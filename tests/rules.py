@@ -1,11 +1,12 @@
 """The papers' rules in plain form, for the generators beside this file: records, lists, plans and the pair.
 
 A channel is (width, height, horizontal shift, vertical shift), a step (horizontal, in place, first, number). Written
-from document 01 alone, the coarse count from document 02, A.2.
+from document 01 alone, the coarse count from document 02, A.2, sides and tag 3 from its A.8.
 """
 import struct
 
 MAX_CHANNELS, MAX_STEPS, MAX_SAMPLES, MAX_SHIFT, META, STOP = 256, 64, 16_777_216, 30, 255, 8
+MAX_SIDE, MAX_SHORT_SIDE = 1_048_575, 65_535
 
 
 class Refused(Exception):
@@ -26,13 +27,14 @@ def read(record):
         tag, length = record[at], record[at + 1] + 256 * record[at + 2]
         body = record[at + 3:at + 3 + length]
         ask(len(body) == length, 1)
-        ask((tag, length) in [(1, 6), (2, 5)] and not (tag == 1 and steps), 2)
-        if tag == 1:
+        ask((tag, length) in [(1, 6), (2, 5), (3, 10)] and not (tag in (1, 3) and steps), 2)
+        if tag in (1, 3):
             ask(len(channels) < MAX_CHANNELS, 3)
-            w, h, sh, sv = struct.unpack('<HHBB', body)
-            ask((sh <= MAX_SHIFT and sv <= MAX_SHIFT) or sh == sv == META, 4)
-            ask(sh != META or all(is_meta(c) for c in channels), 4)
-            channels.append((w, h, sh, sv))
+            c = struct.unpack('<HHBB' if tag == 1 else '<IIBB', body)
+            ask(is_allowed(c), 4)
+            ask(not is_meta(c) or all(is_meta(c) for c in channels), 4)
+            ask(tag == 1 or is_strip(c), 4)
+            channels.append(c)
         else:
             ask(len(steps) < MAX_STEPS, 3)
             flags, first, number = struct.unpack('<BHH', body)
@@ -45,6 +47,18 @@ def read(record):
 
 def is_meta(c):
     return c[2] == c[3] == META
+
+
+# Question 4 of one channel, with "a side above the limit".
+
+def is_allowed(c):
+    return max(c[:2]) <= MAX_SIDE and (is_meta(c) or max(c[2:]) <= MAX_SHIFT)
+
+
+# "A channel with a side above 65,535 is stored under tag 3 .. A channel that fits tag 1 is always written so".
+
+def is_strip(c):
+    return max(c[:2]) > MAX_SHORT_SIDE
 
 
 def total(channels):
@@ -123,8 +137,16 @@ def layouts(channels, steps):
 
 # Fields of a record.
 
-def channel(w, h, sh=0, sv=0):
+def short(w, h, sh=0, sv=0):
     return struct.pack('<BHHHBB', 1, 6, w, h, sh, sv)
+
+
+def strip(w, h, sh=0, sv=0):
+    return struct.pack('<BHIIBB', 3, 10, w, h, sh, sv)
+
+
+def channel(*c):
+    return strip(*c) if is_strip(c) else short(*c)
 
 
 def meta(w, h):

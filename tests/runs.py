@@ -19,10 +19,11 @@ import random
 import struct
 import sys
 
-from records import LONG, ORDER, PRINTED, REFUSALS
-from rules import META, Refused, channel, field, half, layouts, line, meaning, meta, part, step, tendency, total, wrap
+from records import LONG, ORDER, PRINTED, REFUSALS, STRIP_REFUSALS
+from rules import (META, Refused, channel, field, half, layouts, line, meaning, meta, part, step, strip, tendency, total,
+                   wrap)
 
-KINDS = {kind: [] for kind in ['vectors', 'sizes', 'plans', 'metas', 'limits', 'refusals', 'order', 'cuts']}
+KINDS = {kind: [] for kind in ['vectors', 'sizes', 'plans', 'metas', 'limits', 'refusals', 'order', 'cuts', 'strips']}
 dice = random.Random()
 
 
@@ -174,7 +175,7 @@ def run(kind, record, answer=None, sort=None):
     assert answer in (None, number), (kind, record, number)
     if number:
         return refused(kind, number, record, fitting(record))
-    made = samples(fitting(record)[0], sort)
+    made = samples(total(meaning(record)[0]), sort)
     if below(2):
         accepted(kind, record, made, rebuild(record, made))
     else:
@@ -360,9 +361,25 @@ def cuts():
             run('cuts', record[:n])
 
 
+# Strips (document 02, A.8): as long as the program has room for, with both tags in a record, and their refusals. Longer
+# ones are run by the host's tests.
+
+def strips():
+    run('strips', strip(65536, 1), 0)
+    run('strips', strip(1, 65537) + channel(3, 2) + field(2, 0, 2) + field(0, 1, 1), 0)
+    run('strips', strip(65536, 1, META, META) + channel(9, 5) + field(3, 0, 1) + field(1, 2, 1), 0)
+    for number, records in STRIP_REFUSALS.items():
+        for record in records:
+            run('strips', record, number)
+            refused('strips', number, record, [1, 2, 4])
+    for w, h, answer in ((65536, 256, 12), (1048575, 16, 12), (16, 1048575, 12), (1048575, 17, 5), (1048576, 1, 4)):
+        refused('strips', answer, strip(w, h), [1, 1, 1])
+    refused('strips', 12, strip(65536, 1), [65536, 65536, 65535])
+
+
 if __name__ == '__main__':
     vectors(sys.argv[1])
-    for make in (sizes, plans, metas, limits, refusals, order, cuts):
+    for make in (sizes, plans, metas, limits, refusals, order, cuts, strips):
         dice.seed(make.__name__)
         make()
     for kind, cases in KINDS.items():

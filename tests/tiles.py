@@ -18,11 +18,10 @@ import random
 import struct
 import sys
 
-from rules import MAX_SAMPLES, line
+from rules import MAX_SAMPLES, MAX_SHORT_SIDE, MAX_SIDE, line
 
 KINDS = {kind: [] for kind in
          ['published', 'table', 'sizes', 'ends', 'limits', 'areas', 'misfits', 'lengths', 'order', 'cuts']}
-MAX_SIDE = 65_535
 dice = random.Random()
 
 
@@ -167,12 +166,12 @@ def ends():
 def limits():
     for h in (True, False):
         half = MAX_SIDE // 2
-        for m, n, across in [(half + 1, half, 0), (0, 0, MAX_SIDE)]:
+        for m, n, across in [(half + 1, half, 0), (0, 0, MAX_SIDE), (0, 0, MAX_SHORT_SIDE), (0, 0, MAX_SHORT_SIDE + 1)]:
             accepted('limits', Squeeze(h, [[]] * across, [[]] * across, m, n, [], []), [[]] * across)
         for m, across in [(half + 1, 0), (half + 1, 1), (0, MAX_SIDE + 1)]:
             refused('limits', 13, h, fitting(h, m, m, across), [0, 0, 0, 0, 0])
         refused('limits', 13, h, fitting(h, 1, 0, MAX_SIDE + 1), [0, 0, 0, 0, 0])
-        long = [(MAX_SIDE + 1, 0), (MAX_SIDE + 1, 1), (MAX_SAMPLES, 1), (256, MAX_SIDE + 1), (2**64 - 1, 0)]
+        long = [(MAX_SIDE + 1, 0), (MAX_SIDE + 1, 1), (MAX_SAMPLES, 1), (16, MAX_SIDE + 1), (2**32 - 1, 0), (2**64 - 1, 0)]
         for k, side in itertools.product(range(3), long):
             for turned in (side, side[::-1]):
                 refused('limits', 13, h, replaced(fitting(h, 0, 0, 0), k, turned), [0, 0, 0, 0, 0])
@@ -180,12 +179,13 @@ def limits():
             for lengths in ([0, 0, 0, 0, 0], [5, 4, 0, 0, 9]):
                 refused('limits', 12, h, fitting(h, m, m, across), lengths)
         refused('limits', 12, h, fitting(h, half + 1, half, 1), [0, 0, 0, 1, 0])
-        refused('limits', 12, h, fitting(h, 1, 0, MAX_SIDE), [1, 0, 0, 0, 1])
+        for across in (MAX_SHORT_SIDE, MAX_SHORT_SIDE + 1, MAX_SIDE):
+            refused('limits', 12, h, fitting(h, 1, 0, across), [1, 0, 0, 0, 1])
 
 
 # Question 5, each rectangle: just above the limit, products that do not fit 64 bits, some of which wrap to a small one.
 
-TOO_LARGE = [(MAX_SAMPLES + 1, 1), (4096, 4097), (65535, 257), (2**32, 2**32), (2**33, 2**31), (2**63, 2),
+TOO_LARGE = [(MAX_SAMPLES + 1, 1), (4096, 4097), (65535, 257), (MAX_SIDE, 17), (2**16, 2**16), (2**32, 2**32), (2**33, 2**31), (2**63, 2),
              (2**64 - 1, 2**64 - 1), (2**64 - 1, 1), (2**62 + 1, 4), (2**32 + 1, 2**32), (2**40, 2**20)]
 
 

@@ -8,6 +8,7 @@ use list::ChannelList;
 use list::Step;
 use plan::Steps;
 use samples::sample_at;
+use samples::word_at;
 
 // Where the cases come from, and their kinds.
 const RUST: usize = 1;
@@ -73,8 +74,8 @@ fn list_at(bytes: &[u8], at: usize) -> ChannelList
     list.count = count;
     for k in 0..ChannelList::MAX_CHANNELS {
         let e = at + 8 + ENTRY * entry(k, written);
-        let width = number16_at(bytes, e);
-        let height = number16_at(bytes, e + 4);
+        let width = word_at(bytes, e);
+        let height = word_at(bytes, e + 4);
         let shifts = number16_at(bytes, e + 8);
         list.widths[k] = width;
         list.heights[k] = height;

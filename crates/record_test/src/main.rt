@@ -150,5 +150,6 @@ fn main() {
     kind(b"metas ", true);
     kind(b"plans ", true);
     kind(b"bytes ", true);
+    kind(b"strips ", true);
     kind(b"inputs ", false);
 }

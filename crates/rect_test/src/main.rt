@@ -12,7 +12,7 @@ use samples::word_at;
 const CASE: usize = 56;
 
 // The number at `at` as 16 bits; a larger one is the largest.
-fn side_at(bytes: &[u8], at: usize) -> u16 {
+fn position_at(bytes: &[u8], at: usize) -> u16 {
     let n = word_at(bytes, at);
     if n < 0x1_0000 { n as u16 } else { 0xFFFF }
 }
@@ -41,8 +41,8 @@ fn case_agrees(bytes: &[u8], at: usize) -> bool {
         return false;
     }
     let channel = Channel {
-        width: side_at(bytes, at),
-        height: side_at(bytes, at + 4),
+        width: word_at(bytes, at),
+        height: word_at(bytes, at + 4),
         hshift: byte_at(bytes, at + 8),
         vshift: byte_at(bytes, at + 12),
     };
@@ -51,8 +51,8 @@ fn case_agrees(bytes: &[u8], at: usize) -> bool {
         byte_at(bytes, at + 16),
         byte_at(bytes, at + 20),
         word_at(bytes, at + 24),
-        side_at(bytes, at + 28),
-        side_at(bytes, at + 32),
+        position_at(bytes, at + 28),
+        position_at(bytes, at + 32),
     );
     is_at(bytes, at + 36, r)
 }

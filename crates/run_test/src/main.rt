@@ -295,4 +295,5 @@ fn main() {
     kind(b"refusals ");
     kind(b"order ");
     kind(b"cuts ");
+    kind(b"strips ");
 }

@@ -38,20 +38,20 @@ mul-e c = search needs
 add-e-2 : tie.Need-add-e-2 Inv-loop μ-loop
 add-e-2 c = search needs
 
-number16-at-requires : tie.Need-number16-at-requires Inv-loop μ-loop
-number16-at-requires c κs = search needs
+word-at-requires : tie.Need-word-at-requires Inv-loop μ-loop
+word-at-requires c κs = search needs
+
+add-word-at : tie.Need-add-word-at Inv-loop μ-loop
+add-word-at c = search needs
+
+word-at-requires-2 : tie.Need-word-at-requires-2 Inv-loop μ-loop
+word-at-requires-2 c κs = search needs
 
 add-number16-at : tie.Need-add-number16-at Inv-loop μ-loop
 add-number16-at c = search needs
 
-number16-at-requires-2 : tie.Need-number16-at-requires-2 Inv-loop μ-loop
-number16-at-requires-2 c κs = search needs
-
-add-number16-at-2 : tie.Need-add-number16-at-2 Inv-loop μ-loop
-add-number16-at-2 c = search needs
-
-number16-at-requires-3 : tie.Need-number16-at-requires-3 Inv-loop μ-loop
-number16-at-requires-3 c κs = search needs
+number16-at-requires : tie.Need-number16-at-requires Inv-loop μ-loop
+number16-at-requires c κs = search needs
 
 mul-list : tie.Need-mul-list Inv-loop μ-loop
 mul-list c = search needs
@@ -104,11 +104,11 @@ list-at-spec =
     entry-requires
     mul-e
     add-e-2
-    number16-at-requires
+    word-at-requires
+    add-word-at
+    word-at-requires-2
     add-number16-at
-    number16-at-requires-2
-    add-number16-at-2
-    number16-at-requires-3
+    number16-at-requires
     mul-list
     element-write-list
     mul-list-2
