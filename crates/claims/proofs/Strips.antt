@@ -34,13 +34,14 @@ use Rattle.record.specs.Laws.{AreBytes}
 use Rattle.record.proofs.Joined.{record-most}
 use Rattle.record.proofs.Readings.{channels-accepted, steps-judged}
 use Rattle.listing.specs.Text as Text
+use Rattle.listing.proofs.Digits.{decimal-value}
 use Rattle.listing.proofs.Room.{listing-room}
 use Rattle.before.specs.Laws as Before
 use Rattle.before.specs.Laws.{noStrip}
 use Rattle.before.proofs.AsBefore.{read-as-before, written-as-before}
 use Rattle.rect.specs.Rect as Rect
 use Rattle.claims.specs.Table.{record20by9}
-use Rattle.claims.specs.Strips.{OldRecords, Room, SidesWithin, Limit, Rows, Strips, mixed}
+use Rattle.claims.specs.Strips.{OldRecords, Room, SidesWithin, PrintedWhole, Limit, Rows, Strips, mixed}
 
 -- ---- old records
 are-bytes : AreBytes record20by9
@@ -68,6 +69,12 @@ recorded bytes z =
     let first = channels-accepted bytes z in
     (within (channelsOf bytes) first, within (reachedOf bytes) (plan-accepted (stepsOf bytes) (channelsOf bytes) first (steps-judged bytes z)))
 
+printed : (bytes : List ℕ) → readAnswer bytes ≡ 0 → (k : ℕ) → k < length (reachedOf bytes)
+    → PrintedWhole (channelOf (reachedOf bytes) k .width) × PrintedWhole (channelOf (reachedOf bytes) k .height)
+printed bytes z k h =
+    let s = recorded bytes z .1 k h in
+    (decimal-value _ (omega arith), decimal-value _ (omega arith))
+
 -- ---- all of them
 pub strips : Strips
 unfolding
@@ -89,7 +96,7 @@ strips =
       mixed-accepted = refl;
       room = record { records = record-room; judged = omega arith; listings = listing-room };
       longest-default = longest-default;
-      limit = record { lists = λ l h. within (channels l) (list-accepted l h); recorded = recorded; largest = refl; above = refl; far-above = refl };
+      limit = record { lists = λ l h. within (channels l) (list-accepted l h); recorded = recorded; printed = printed; largest = refl; above = refl; far-above = refl };
       rows =
           record {
             written-short = refl;

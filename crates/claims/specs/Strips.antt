@@ -23,7 +23,7 @@ use Rattle.record.specs.Bytes.{stripField, channelField}
 use Rattle.record.specs.Reading.{answerOf, formOf}
 use Rattle.record.specs.Records.{readAnswer, channelsOf, reachedOf, recordFor}
 use Rattle.record.specs.Laws.{AreBytes}
-use Rattle.listing.specs.Text.{space, newline, channelLine}
+use Rattle.listing.specs.Text.{space, newline, decimal, valueFrom, channelLine}
 use Rattle.listing.specs.Listing.{judgedBytes, listing}
 use Rattle.listing.specs.Putting.{listingRoom}
 use Rattle.before.specs.Laws.{noStrip, ReadAsBeforeLaw, WrittenAsBeforeLaw}
@@ -55,9 +55,15 @@ pub record Room : Type 0 where
 abbrev pub SidesWithin : List Channel → Type 0
 SidesWithin cs = (k : ℕ) → k < length cs → (channelOf cs k .width ≤ maxSide) × (channelOf cs k .height ≤ maxSide)
 
+-- a number is printed whole: its digits stand for it
+abbrev pub PrintedWhole : ℕ → Type 0
+PrintedWhole n = valueFrom 0 (decimal n) ≡ n
+
 pub record Limit : Type 0 where
   pub lists : (l : ChannelList) → judgeList l ≡ 0 → SidesWithin (channels l)
   pub recorded : (bytes : List ℕ) → readAnswer bytes ≡ 0 → SidesWithin (channelsOf bytes) × SidesWithin (reachedOf bytes)
+  pub printed : (bytes : List ℕ) → readAnswer bytes ≡ 0 → (k : ℕ) → k < length (reachedOf bytes)
+      → PrintedWhole (channelOf (reachedOf bytes) k .width) × PrintedWhole (channelOf (reachedOf bytes) k .height)
   -- 1,048,575 is accepted and 1,048,576 is not, nor is it taken for 0
   pub largest : judgeList (packed (channel 1_048_575 16 ∷ [])) ≡ 0
   pub above : judgeList (packed (channel 1_048_576 1 ∷ [])) ≡ refusedForm

@@ -1,14 +1,16 @@
--- The decimal digits of a number (`digitsUpto` of specs/Text.antt) are the end of its last digits, and how many they are. Assumes nothing.
+-- The decimal digits of a number (`digitsUpto` of specs/Text.antt) are the end of its last digits; which number they stand for, and how many they
+-- are. Assumes nothing.
 use mathlib.Core.Path.{_≡_, refl, ap, _∙_}
 use mathlib.Core.List.{List, [], _∷_, _++_}
 use mathlib.Core.Bool.{Bool, true, false, cond}
-use Prim.Native.Nat.{ℕ, zero, suc, _+_, _-_, _/_, _%_, _<_, _≤_}
+use Prim.Native.Nat.{ℕ, zero, suc, _+_, _-_, _*_, _/_, _%_, _^_, _<_, _≤_}
+use native.Mathlib.Nat.{pow-succ'}
 use native.Mathlib.Omega.{arith}
 use borrow.Author.Tests.{ltb-true, ltb-false, lt-ltb, le-ltb}
 use lib.Dec.{ltb}
 use lib.ListN.{length, take, drop, length-append}
 use lib.Seq.{take-length}
-use Rattle.listing.specs.Text.{numberPlaces, digit, digitsUpto, decimal, two}
+use Rattle.listing.specs.Text.{numberPlaces, digit, digitsUpto, decimal, valueFrom, two}
 use Rattle.listing.specs.Putting.{numberRoom, twoRoom, shiftsRoom, lastDigits, Vain}
 
 last-length : (places n : ℕ) → length (lastDigits places n) ≡ places
@@ -77,6 +79,26 @@ unfolding decimal
 digits-part n vain digits e d =
     let size : numberRoom - vain ≡ length (digitsUpto numberPlaces n) = omega (arith, d .count) in
     rw (e, d .rest, size) (take-length (digitsUpto numberPlaces n))
+
+-- ---- the number that they stand for: all of it, where the places are enough
+value-last : (n : ℕ) (ds : List ℕ) (d : ℕ) → valueFrom n (ds ++ (d ∷ [])) ≡ 10 * valueFrom n ds + (d - digit 0)
+value-last n [] d = refl
+value-last n (c ∷ ds) d = value-last (10 * n + (c - digit 0)) ds d
+
+digits-value : (places n : ℕ) → n < 10 ^ places → valueFrom 0 (digitsUpto places n) ≡ n
+digits-value zero n h = omega arith
+digits-value (suc places) n h =
+    let tenth : n / 10 < 10 ^ places = omega (arith, pow-succ' 10 places) in
+    go (ltb n 10) (digits-value places (n / 10) tenth)
+  where
+    go : (b : Bool) → valueFrom 0 (digitsUpto places (n / 10)) ≡ n / 10
+        → valueFrom 0 (cond b (digit n ∷ []) (digitsUpto places (n / 10) ++ (digit (n % 10) ∷ []))) ≡ n
+    go true v = omega arith
+    go false v = value-last 0 (digitsUpto places (n / 10)) (digit (n % 10)) ∙ rw v (omega arith)
+
+pub decimal-value : (n : ℕ) → n < 10 ^ numberPlaces → valueFrom 0 (decimal n) ≡ n
+unfolding decimal
+decimal-value n h = digits-value numberPlaces n h
 
 -- ---- how many they are
 upto-length : (places n : ℕ) → length (digitsUpto places n) ≤ places

@@ -1,7 +1,7 @@
 -- The text of a listing (document 01, "Proved table", the program squeeze-list), as bytes. Definitions only.
 use mathlib.Core.Bool.{Bool, cond}
 use mathlib.Core.List.{List, [], _∷_, _++_}
-use Prim.Native.Nat.{ℕ, zero, suc, _+_, _/_, _%_}
+use Prim.Native.Nat.{ℕ, zero, suc, _+_, _-_, _*_, _/_, _%_}
 use lib.Dec.{ltb}
 use Rattle.channel.specs.declared.Channel.{Channel}
 use Rattle.channel.specs.Channel.{isMeta}
@@ -29,6 +29,11 @@ numberPlaces = 7
 
 unfoldable pub decimal : ℕ → List ℕ
 decimal n = digitsUpto numberPlaces n
+
+-- the number that digits stand for, after those that stand for n
+abbrev pub valueFrom : ℕ → List ℕ → ℕ
+valueFrom n [] = n
+valueFrom n (d ∷ ds) = valueFrom (10 * n + (d - digit 0)) ds
 
 -- "steps ", "channels ", "coarse " and "refused "
 abbrev pub stepsWord : List ℕ
