@@ -16,7 +16,7 @@ int main(void)
 {
     /* One channel, 20 by 9, shifts 0, and no steps: the default plan. */
     static const uint32_t channels[] = {WIDTH, HEIGHT, 0, 0};
-    static uint8_t record[2816], text[8192];
+    static uint8_t record[3840], text[8192];
     static int32_t picture[SAMPLES], pyramid[SAMPLES], back[SAMPLES], work[SAMPLES];
     uint32_t answer, bytes, length;
     int i;

@@ -6,18 +6,23 @@
    function answers 0, or the number of a refusal; a refused call changes
    nothing. No call takes memory but its stack, at most 64 KiB.
 
+   A side is at most 1,048,575. In a record a channel with a side above 65,535 is
+   a strip and has a field of its own, tag 3; every other channel has tag 1, and
+   tag 3 for it is refused.
+
    Refusals:  1 a field's head or length runs past the record
               2 unknown tag, wrong length, or a channel after a step
               3 no channel, over 256 channels or over 64 steps
-              4 shifts, meta channels not first, unknown flag bits, or a side
-                above 65,535
+              4 shifts, meta channels not first, unknown flag bits, a side above
+                1,048,575, or tag 3 for a channel that is no strip
               5 over 16,777,216 samples
               6 a step's range      7 its kinds     8 meta and not in place
               9 an empty side      10 too many channels, or a shift above 30
              11 a default plan without a channel that is not meta
              12 a slice of another length than it needs, or too short for what
                 is written to it
-             13 sizes or lines of a tile call that don't fit
+             13 sizes or lines of a tile call that don't fit, or a side above
+                1,048,575
              14 a rectangle's kinds or group dimension */
 #ifndef SQUEEZE_H
 #define SQUEEZE_H
@@ -72,12 +77,12 @@ uint32_t squeeze_listing(const uint8_t *record, size_t record_len,
    shift, both shifts 255 for a meta channel. steps: three numbers each, flags
    (the sum of 1 for horizontal and 2 for in place), first channel, number of
    channels; no steps mean the default plan. The bytes go over the front of
-   `record` (9 for a channel, 8 for a step; 2,816 hold every record), their
-   number into length[0]; what is past them stays. A number too large for its
-   field is refused, never cut: a side of 65,536 with 4, shifts and flags above
-   255 with 4, a step's first channel or number of 65,536 with 6. Numbers left
-   over after the last whole channel or step, a record too short or no length:
-   refused with 12. */
+   `record` (9 for a channel, 13 for a strip, 8 for a step; 3,840 hold every
+   record), their number into length[0]; what is past them stays. A number too
+   large for its place is refused, never cut: a side of 1,048,576 with 4, shifts
+   and flags above 255 with 4, a step's first channel or number of 65,536 with 6.
+   Numbers left over after the last whole channel or step, a record too short or
+   no length: refused with 12. */
 uint32_t squeeze_record(const uint32_t *channels, size_t channels_len,
                         const uint32_t *steps, size_t steps_len,
                         uint8_t *record, size_t record_len,
@@ -85,8 +90,9 @@ uint32_t squeeze_record(const uint32_t *channels, size_t channels_len,
 
 /* The rectangle of a channel at grid position (gx, gy). Kinds: 0 none, 1 LF,
    2 HF. group: 128, 256, 512 or 1,024. rect: four numbers, x, y, width, height;
-   written. A meta channel has both shifts 255. */
-uint32_t squeeze_grid_rect(uint16_t width, uint16_t height,
+   written. A meta channel has both shifts 255. Width and height have 32 bits;
+   they had 16 before there were strips. */
+uint32_t squeeze_grid_rect(uint32_t width, uint32_t height,
                            uint8_t hshift, uint8_t vshift,
                            uint8_t output, uint8_t stored, uint32_t group,
                            uint16_t gx, uint16_t gy,
