@@ -67,8 +67,8 @@ extern "C" {
     ) -> u32;
 
     pub fn squeeze_grid_rect(
-        width: u16,
-        height: u16,
+        width: u32,
+        height: u32,
         hshift: u8,
         vshift: u8,
         output: u8,

@@ -2,20 +2,21 @@
 
 use std::ops::Range;
 
-/// A channel of a list.
+/// A channel of a list. One with a side above 65,535 is a strip. Any sides can be
+/// made; the core refuses those above 1,048,575.
 #[derive(Clone, Copy, Debug, PartialEq, Eq, Hash)]
 pub struct Channel {
     /// Samples in a row.
-    pub width: u16,
+    pub width: u32,
     /// Rows.
-    pub height: u16,
+    pub height: u32,
     /// Horizontal and vertical shift; none for a meta channel.
     pub shifts: Option<(u8, u8)>,
 }
 
 impl Channel {
     /// A channel without shifts.
-    pub fn new(width: u16, height: u16) -> Channel {
+    pub fn new(width: u32, height: u32) -> Channel {
         Channel {
             width,
             height,
@@ -24,7 +25,7 @@ impl Channel {
     }
 
     /// A meta channel.
-    pub fn meta(width: u16, height: u16) -> Channel {
+    pub fn meta(width: u32, height: u32) -> Channel {
         Channel {
             width,
             height,
@@ -37,9 +38,10 @@ impl Channel {
         self.shifts.is_none()
     }
 
-    /// How many samples the channel has.
+    /// How many samples the channel has; of more than a machine can count, the
+    /// most that it can.
     pub fn samples(&self) -> usize {
-        usize::from(self.width) * usize::from(self.height)
+        (self.width as usize).saturating_mul(self.height as usize)
     }
 }
 
@@ -210,5 +212,16 @@ mod tests {
         assert_eq!((layout.samples(), layout.coarse_samples()), (86, 86));
         assert_eq!(layout.preview_channels(), &layout.channels[1..]);
         assert_eq!(layout.preview_samples(), 30..86);
+    }
+
+    #[test]
+    fn strips() {
+        let text = "steps 0\nchannels 2\n1048575 1 m m\n16 1048575 0 0\ncoarse 1\n";
+        let layout = parse(text).unwrap();
+        let strips = [Channel::meta(1_048_575, 1), Channel::new(16, 1_048_575)];
+        assert_eq!(layout.channels, strips);
+        assert_eq!(layout.samples(), 17 * 1_048_575);
+        let largest = Channel::new(u32::MAX, u32::MAX);
+        assert!(largest.samples() >= u32::MAX as usize);
     }
 }

@@ -5,13 +5,16 @@ use crate::{answer, ffi, Refusal};
 
 /// The bytes that hold every record that the core accepts: 256 channels, then
 /// 64 steps.
-pub const RECORD_ROOM: usize = 256 * CHANNEL_BYTES + 64 * STEP_BYTES;
+pub const RECORD_ROOM: usize = 256 * STRIP_BYTES + 64 * STEP_BYTES;
 
-const CHANNEL_BYTES: usize = 3 + 6;
+const STRIP_BYTES: usize = 3 + 10;
 const STEP_BYTES: usize = 3 + 5;
 
 /// Both shifts of a meta channel.
 const META: u8 = 255;
+
+/// The longest side under tag 1.
+const SHORT_SIDE: u32 = 65_535;
 
 /// The bytes that describe a picture's channels and its plan. A program that
 /// makes records ends with [`checked`](Record::checked), or begins with
@@ -26,6 +29,15 @@ const META: u8 = 255;
 ///
 /// let large = Record::new().channel(4096, 4096).channel(1, 1);
 /// assert_eq!(large.checked(), Err(Refusal::TooManySamples));
+/// # Ok::<(), Refusal>(())
+/// ```
+///
+/// A channel with a side above 65,535, a strip, has a longer field with tag 3:
+///
+/// ```
+/// # use squeeze::{Record, Refusal};
+/// let strip = Record::new().channel(70_000, 3).checked()?;
+/// assert_eq!(strip.bytes(), [3, 10, 0, 0x70, 0x11, 1, 0, 3, 0, 0, 0, 0, 0]);
 /// # Ok::<(), Refusal>(())
 /// ```
 ///
@@ -82,12 +94,12 @@ impl Record {
     }
 
     /// Adds a channel without shifts.
-    pub fn channel(self, width: u16, height: u16) -> Record {
+    pub fn channel(self, width: u32, height: u32) -> Record {
         self.add_channel(Channel::new(width, height))
     }
 
     /// Adds a channel with a horizontal and a vertical shift.
-    pub fn shifted_channel(self, width: u16, height: u16, hshift: u8, vshift: u8) -> Record {
+    pub fn shifted_channel(self, width: u32, height: u32, hshift: u8, vshift: u8) -> Record {
         let shifts = Some((hshift, vshift)).filter(|&shifts| shifts != (META, META));
         self.add_channel(Channel {
             width,
@@ -97,18 +109,14 @@ impl Record {
     }
 
     /// Adds a meta channel.
-    pub fn meta_channel(self, width: u16, height: u16) -> Record {
+    pub fn meta_channel(self, width: u32, height: u32) -> Record {
         self.add_channel(Channel::meta(width, height))
     }
 
     /// Adds a channel as a layout gives it.
     pub fn add_channel(mut self, channel: Channel) -> Record {
-        let (hshift, vshift) = shifts(&channel);
-        let [w0, w1] = channel.width.to_le_bytes();
-        let [h0, h1] = channel.height.to_le_bytes();
-        let field = [1, 6, 0, w0, w1, h0, h1, hshift, vshift];
-        let end = self.channels.len() * CHANNEL_BYTES;
-        self.bytes.splice(end..end, field);
+        let end = self.bytes.len() - self.steps.len() * STEP_BYTES;
+        self.bytes.splice(end..end, channel_field(&channel));
         self.channels.push(channel);
         self
     }
@@ -129,6 +137,18 @@ impl Record {
     }
 }
 
+/// The field of a channel: tag 1 where that holds its sides, else tag 3.
+fn channel_field(channel: &Channel) -> Vec<u8> {
+    let (hshift, vshift) = shifts(channel);
+    let [w0, w1, w2, w3] = channel.width.to_le_bytes();
+    let [h0, h1, h2, h3] = channel.height.to_le_bytes();
+    if channel.width <= SHORT_SIDE && channel.height <= SHORT_SIDE {
+        vec![1, 6, 0, w0, w1, h0, h1, hshift, vshift]
+    } else {
+        vec![3, 10, 0, w0, w1, w2, w3, h0, h1, h2, h3, hshift, vshift]
+    }
+}
+
 fn shifts(channel: &Channel) -> (u8, u8) {
     channel.shifts.unwrap_or((META, META))
 }
@@ -139,12 +159,7 @@ fn flags(step: &Step) -> u8 {
 
 fn channel_numbers(channel: &Channel) -> [u32; 4] {
     let (hshift, vshift) = shifts(channel);
-    [
-        channel.width.into(),
-        channel.height.into(),
-        hshift.into(),
-        vshift.into(),
-    ]
+    [channel.width, channel.height, hshift.into(), vshift.into()]
 }
 
 fn step_numbers(step: &Step) -> [u32; 3] {
@@ -154,7 +169,7 @@ fn step_numbers(step: &Step) -> [u32; 3] {
 /// Writes the record of channels and steps given as numbers over the front of
 /// `record`, and gives its length: four numbers a channel (width, height, two
 /// shifts, both 255 for meta), three a step (flags, first channel, number; flag
-/// bit 0 horizontal, bit 1 in place). A number too large for its field is
+/// bit 0 horizontal, bit 1 in place). A number too large for its place is
 /// refused, never cut. [`RECORD_ROOM`] bytes hold every record.
 ///
 /// ```
@@ -164,7 +179,7 @@ fn step_numbers(step: &Step) -> [u32; 3] {
 /// let length = write_record(&[20, 9, 0, 0], &[], &mut record)?;
 /// assert_eq!(record[..length], [1, 6, 0, 20, 0, 9, 0, 0, 0]);
 ///
-/// let wide = write_record(&[65_536, 9, 0, 0], &[], &mut record);
+/// let wide = write_record(&[1_048_576, 9, 0, 0], &[], &mut record);
 /// assert_eq!(wide, Err(Refusal::Form));
 /// # Ok::<(), Refusal>(())
 /// ```

@@ -14,8 +14,8 @@ pub enum Refusal {
     BadField = 2,
     /// 3: no channel, more than 256 channels or more than 64 steps.
     Count = 3,
-    /// 4: shifts out of range, a meta channel after another, unknown flag bits, or
-    /// a side above 65,535.
+    /// 4: shifts out of range, a meta channel after another, unknown flag bits, a
+    /// side above 1,048,575, or tag 3 for a channel that fits tag 1.
     Form = 4,
     /// 5: more than 16,777,216 samples.
     TooManySamples = 5,
@@ -33,7 +33,8 @@ pub enum Refusal {
     OnlyMeta = 11,
     /// 12: a slice doesn't have its length, or room for what is written.
     SliceLength = 12,
-    /// 13: sizes or neighbour lines of a tile call that don't fit each other.
+    /// 13: sizes or neighbour lines of a tile call that don't fit each other, or a
+    /// side above 1,048,575.
     TileSizes = 13,
     /// 14: kinds that have no rectangle, or a group dimension that doesn't exist.
     RectKind = 14,
@@ -76,7 +77,7 @@ impl Refusal {
             Refusal::Count => "there must be 1 to 256 channels and at most 64 steps",
             Refusal::Form => {
                 "shifts must be 0 to 30 or both 255, meta channels first, unknown flag bits 0, \
-                 sides at most 65,535"
+                 sides at most 1,048,575, tag 3 for a side above 65,535 only"
             }
             Refusal::TooManySamples => "more than 16,777,216 samples",
             Refusal::StepRange => "a step has no channels or ends past the last channel",
@@ -86,7 +87,9 @@ impl Refusal {
             Refusal::PlanTooDeep => "a step would leave more than 256 channels or a shift above 30",
             Refusal::OnlyMeta => "the default plan needs a channel that is not meta",
             Refusal::SliceLength => "a slice doesn't have its length, or is too short",
-            Refusal::TileSizes => "sizes or neighbour lines of a tile don't fit",
+            Refusal::TileSizes => {
+                "sizes or neighbour lines of a tile don't fit, or a side is above 1,048,575"
+            }
             Refusal::RectKind => "no rectangle for these kinds or this group dimension",
         }
     }

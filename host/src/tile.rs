@@ -13,7 +13,8 @@ pub struct Size {
 
 /// The sizes of a tile call. They have to fit: along the squeeze the output has
 /// the averages' side and the residuals' side together, and there is at most
-/// one average more than residuals; across it all three sides are equal.
+/// one average more than residuals; across it all three sides are equal. No side
+/// is above 1,048,575.
 #[derive(Clone, Copy, Debug, PartialEq, Eq, Hash)]
 pub struct TileSizes {
     /// Along the rows; else along the columns.
@@ -127,10 +128,10 @@ impl Kind {
 /// Which rectangle is asked for.
 #[derive(Clone, Copy, Debug, PartialEq, Eq, Hash)]
 pub struct GridQuery {
-    /// The channel's width.
-    pub width: u16,
-    /// The channel's height.
-    pub height: u16,
+    /// The channel's width, at most 1,048,575.
+    pub width: u32,
+    /// The channel's height, at most 1,048,575.
+    pub height: u32,
     /// Its horizontal shift; 255 in both for a meta channel.
     pub hshift: u8,
     /// Its vertical shift.

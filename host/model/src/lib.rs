@@ -25,11 +25,13 @@ pub const MAX_CHANNELS: usize = 256;
 pub const MAX_STEPS: usize = 64;
 /// The highest shift.
 pub const MAX_SHIFT: u8 = 30;
-/// The longest side.
-pub const MAX_SIDE: usize = 65_535;
+/// The longest side (document 02, A.8).
+pub const MAX_SIDE: u32 = 1_048_575;
+/// The longest side of a channel under tag 1.
+pub const MAX_SHORT_SIDE: u32 = 65_535;
 /// The side up to which a channel that is not meta is coarse, and at which the
 /// default plan stops.
-pub const COARSE_SIDE: u16 = 8;
+pub const COARSE_SIDE: u32 = 8;
 
 /// The refusals' numbers.
 pub mod refusal {
@@ -39,7 +41,8 @@ pub mod refusal {
     pub const BAD_FIELD: u32 = 2;
     /// Question 3: how many channels and steps.
     pub const COUNT: u32 = 3;
-    /// Question 4: shifts, meta channels first, flag bits; sides given as numbers.
+    /// Question 4: shifts, meta channels first, flag bits; sides, and tag 3 for a
+    /// channel that fits tag 1 (document 02, A.8).
     pub const FORM: u32 = 4;
     /// Question 5: the sample total.
     pub const SAMPLES: u32 = 5;

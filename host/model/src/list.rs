@@ -1,17 +1,20 @@
 //! Channel lists, and what a step makes of one.
 
-use crate::{refusal, COARSE_SIDE, MAX_CHANNELS, MAX_SAMPLES, MAX_SHIFT};
+use crate::{refusal, COARSE_SIDE, MAX_CHANNELS, MAX_SAMPLES, MAX_SHIFT, MAX_SIDE};
 
 /// A channel: its sides, and its shifts unless it is meta.
 #[derive(Clone, Copy, Debug, PartialEq, Eq)]
 pub struct Channel {
     /// Samples in a row.
-    pub width: u16,
+    pub width: u32,
     /// Rows.
-    pub height: u16,
+    pub height: u32,
     /// Horizontal and vertical shift; none for meta.
     pub shifts: Option<(u8, u8)>,
 }
+
+/// Both shifts of a meta channel.
+const META: u32 = 255;
 
 /// A step: its direction, its place and its range.
 #[derive(Clone, Copy, Debug, PartialEq, Eq)]
@@ -27,9 +30,35 @@ pub struct Step {
 }
 
 impl Channel {
+    /// Question 4 for one channel: its sides and its shifts, both 255 for meta.
+    pub fn of_numbers([width, height, hshift, vshift]: [u32; 4]) -> Result<Channel, u32> {
+        let shift = |shift: u32| u8::try_from(shift).ok().filter(|&s| s <= MAX_SHIFT);
+        let shifts = match (hshift, vshift) {
+            (META, META) => None,
+            _ => match (shift(hshift), shift(vshift)) {
+                (Some(h), Some(v)) => Some((h, v)),
+                _ => return Err(refusal::FORM),
+            },
+        };
+        if width > MAX_SIDE || height > MAX_SIDE {
+            return Err(refusal::FORM);
+        }
+        Ok(Channel {
+            width,
+            height,
+            shifts,
+        })
+    }
+
+    /// Its sides as positions of a slice.
+    pub fn size(&self) -> (usize, usize) {
+        (self.width as usize, self.height as usize)
+    }
+
     /// How many samples it has.
     pub fn samples(&self) -> usize {
-        usize::from(self.width) * usize::from(self.height)
+        let (width, height) = self.size();
+        width * height
     }
 
     /// Whether it is meta.
@@ -38,7 +67,7 @@ impl Channel {
     }
 
     /// Whether it is meta, of any size, or has no side above `group_dim`.
-    pub fn is_meta_or_small(&self, group_dim: u16) -> bool {
+    pub fn is_meta_or_small(&self, group_dim: u32) -> bool {
         self.meta() || (self.width <= group_dim && self.height <= group_dim)
     }
 
@@ -82,12 +111,13 @@ pub fn total(list: &[Channel]) -> usize {
     list.iter().map(Channel::samples).sum()
 }
 
-/// Question 5.
+/// Question 5, of whole numbers that no list is too large for.
 pub fn check_total(list: &[Channel]) -> Result<(), u32> {
-    match total(list) as u64 {
-        0..=MAX_SAMPLES => Ok(()),
-        _ => Err(refusal::SAMPLES),
+    let samples = |c: &Channel| u128::from(c.width) * u128::from(c.height);
+    if list.iter().map(samples).sum::<u128>() > u128::from(MAX_SAMPLES) {
+        return Err(refusal::SAMPLES);
     }
+    Ok(())
 }
 
 /// Questions 7 to 11.

@@ -20,7 +20,7 @@ pub fn default_plan(list: &[Channel]) -> Result<Vec<Step>, u32> {
 }
 
 /// The steps on the second and third channel that is not meta.
-fn chroma_steps(meta: usize, w: u16, h: u16, steps: &mut Vec<Step>) {
+fn chroma_steps(meta: usize, w: u32, h: u32, steps: &mut Vec<Step>) {
     let step = |horizontal| Step {
         horizontal,
         in_place: false,
@@ -36,7 +36,7 @@ fn chroma_steps(meta: usize, w: u16, h: u16, steps: &mut Vec<Step>) {
 }
 
 /// The in-place steps on all `n` channels that are not meta.
-fn all_steps(meta: usize, n: usize, mut w: u16, mut h: u16, steps: &mut Vec<Step>) {
+fn all_steps(meta: usize, n: usize, mut w: u32, mut h: u32, steps: &mut Vec<Step>) {
     let step = |horizontal| Step {
         horizontal,
         in_place: true,

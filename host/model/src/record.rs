@@ -1,7 +1,7 @@
 //! Records: questions 1 to 4, field by field.
 
 use crate::list::{Channel, Step};
-use crate::{plan, refusal, MAX_CHANNELS, MAX_SHIFT, MAX_STEPS};
+use crate::{plan, refusal, MAX_CHANNELS, MAX_SHORT_SIDE, MAX_STEPS};
 
 /// Channels and steps of a record, as they stand there.
 #[derive(Clone, Debug, Default, PartialEq, Eq)]
@@ -19,7 +19,8 @@ pub fn read(bytes: &[u8]) -> Result<Record, u32> {
     while !rest.is_empty() {
         let (tag, body, after) = field(rest)?;
         match (tag, body.len()) {
-            (1, 6) if record.steps.is_empty() => add_channel(&mut record, body)?,
+            (1, 6) if record.steps.is_empty() => add_channel(&mut record, short(body), false)?,
+            (3, 10) if record.steps.is_empty() => add_channel(&mut record, long(body), true)?,
             (2, 5) => add_step(&mut record, body)?,
             _ => return Err(refusal::BAD_FIELD),
         }
@@ -42,7 +43,7 @@ fn field(bytes: &[u8]) -> Result<(u8, &[u8], &[u8]), u32> {
     let [tag, low, high, rest @ ..] = bytes else {
         return Err(refusal::CUT_FIELD);
     };
-    let length = usize::from(number(*low, *high));
+    let length = number(&[*low, *high]) as usize;
     if length > rest.len() {
         return Err(refusal::CUT_FIELD);
     }
@@ -50,27 +51,40 @@ fn field(bytes: &[u8]) -> Result<(u8, &[u8], &[u8]), u32> {
     Ok((*tag, body, after))
 }
 
-fn number(low: u8, high: u8) -> u16 {
-    u16::from_le_bytes([low, high])
+/// A number of up to four bytes, the least first.
+fn number(bytes: &[u8]) -> u32 {
+    let add = |value, &byte| value << 8 | u32::from(byte);
+    bytes.iter().rev().fold(0, add)
 }
 
-fn add_channel(record: &mut Record, body: &[u8]) -> Result<(), u32> {
+/// Width, height and two shifts under tag 1: 2, 2, 1 and 1 byte.
+fn short(body: &[u8]) -> [u32; 4] {
+    [&body[..2], &body[2..4], &body[4..5], &body[5..]].map(number)
+}
+
+/// The same under tag 3: 4, 4, 1 and 1 byte.
+fn long(body: &[u8]) -> [u32; 4] {
+    [&body[..4], &body[4..8], &body[8..9], &body[9..]].map(number)
+}
+
+/// Whether a channel's sides are such as tag 1 holds; else its tag is 3 (document
+/// 02, A.8).
+pub fn fits_tag_1([width, height, ..]: [u32; 4]) -> bool {
+    width <= MAX_SHORT_SIDE && height <= MAX_SHORT_SIDE
+}
+
+fn add_channel(record: &mut Record, numbers: [u32; 4], tag_3: bool) -> Result<(), u32> {
     if record.channels.len() == MAX_CHANNELS {
         return Err(refusal::COUNT);
     }
-    let (hshift, vshift) = (body[4], body[5]);
-    let meta = (hshift, vshift) == (255, 255);
-    if !meta && (hshift > MAX_SHIFT || vshift > MAX_SHIFT) {
+    let channel = Channel::of_numbers(numbers)?;
+    if tag_3 && fits_tag_1(numbers) {
         return Err(refusal::FORM);
     }
-    if meta && record.channels.iter().any(|c| !c.meta()) {
+    if channel.meta() && record.channels.iter().any(|c| !c.meta()) {
         return Err(refusal::FORM);
     }
-    record.channels.push(Channel {
-        width: number(body[0], body[1]),
-        height: number(body[2], body[3]),
-        shifts: (!meta).then_some((hshift, vshift)),
-    });
+    record.channels.push(channel);
     Ok(())
 }
 
@@ -85,8 +99,8 @@ fn add_step(record: &mut Record, body: &[u8]) -> Result<(), u32> {
     record.steps.push(Step {
         horizontal: flags & 1 == 1,
         in_place: flags & 2 == 2,
-        first: number(body[1], body[2]).into(),
-        number: number(body[3], body[4]).into(),
+        first: number(&body[1..3]),
+        number: number(&body[3..]),
     });
     Ok(())
 }

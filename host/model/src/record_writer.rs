@@ -4,15 +4,13 @@
 //! is judged, never cut.
 
 use crate::list::{Channel, Step};
-use crate::{plan, refusal, MAX_CHANNELS, MAX_SHIFT, MAX_STEPS};
+use crate::record::fits_tag_1;
+use crate::{plan, refusal, MAX_CHANNELS, MAX_STEPS};
 
 /// Width, height and two shifts.
 type ChannelNumbers = [u32; 4];
 /// Flags, first channel and number.
 type StepNumbers = [u32; 3];
-
-/// Both shifts of a meta channel.
-const META: u32 = 255;
 
 /// Writes the record over the front of `record` and its length over the first of
 /// `length`: 0, or a refusal's number and both slices as they were.
@@ -37,11 +35,9 @@ fn judge(channels: &[ChannelNumbers], steps: &[StepNumbers]) -> Result<plan::Pla
     if channels.is_empty() || channels.len() > MAX_CHANNELS || steps.len() > MAX_STEPS {
         return Err(refusal::COUNT);
     }
-    let list: Option<Vec<Channel>> = channels.iter().map(channel).collect();
-    let steps: Option<Vec<Step>> = steps.iter().map(step).collect();
-    let (Some(list), Some(steps)) = (list, steps) else {
-        return Err(refusal::FORM);
-    };
+    let list = channels.iter().copied().map(Channel::of_numbers);
+    let list = list.collect::<Result<Vec<Channel>, u32>>()?;
+    let steps = steps.iter().map(step).collect::<Result<Vec<Step>, u32>>()?;
     let meta = list.iter().take_while(|c| c.meta()).count();
     if list[meta..].iter().any(Channel::meta) {
         return Err(refusal::FORM);
@@ -49,23 +45,12 @@ fn judge(channels: &[ChannelNumbers], steps: &[StepNumbers]) -> Result<plan::Pla
     plan::judge(list, steps)
 }
 
-/// Question 4 for one channel.
-fn channel(&[width, height, hshift, vshift]: &ChannelNumbers) -> Option<Channel> {
-    let shift = |shift: u32| u8::try_from(shift).ok().filter(|&s| s <= MAX_SHIFT);
-    let shifts = match (hshift, vshift) {
-        (META, META) => None,
-        _ => Some((shift(hshift)?, shift(vshift)?)),
-    };
-    Some(Channel {
-        width: width.try_into().ok()?,
-        height: height.try_into().ok()?,
-        shifts,
-    })
-}
-
 /// Question 4 for one step.
-fn step(&[flags, first, number]: &StepNumbers) -> Option<Step> {
-    (flags <= 3).then_some(Step {
+fn step(&[flags, first, number]: &StepNumbers) -> Result<Step, u32> {
+    if flags > 3 {
+        return Err(refusal::FORM);
+    }
+    Ok(Step {
         horizontal: flags & 1 == 1,
         in_place: flags & 2 == 2,
         first,
@@ -75,13 +60,19 @@ fn step(&[flags, first, number]: &StepNumbers) -> Option<Step> {
 
 /// The record of numbers that fit their fields.
 fn encode(channels: &[ChannelNumbers], steps: &[StepNumbers]) -> Vec<u8> {
-    let channel = |&[width, height, h, v]: &ChannelNumbers| {
-        field(1, &[(width, 2), (height, 2), (h, 1), (v, 1)])
-    };
-    let step =
-        |&[flags, first, number]: &StepNumbers| field(2, &[(flags, 1), (first, 2), (number, 2)]);
-    let fields = channels.iter().map(channel).chain(steps.iter().map(step));
+    let channels = channels.iter().map(channel_field);
+    let fields = channels.chain(steps.iter().map(step_field));
     fields.flatten().collect()
+}
+
+fn channel_field(numbers: &ChannelNumbers) -> Vec<u8> {
+    let &[width, height, h, v] = numbers;
+    let (tag, side) = if fits_tag_1(*numbers) { (1, 2) } else { (3, 4) };
+    field(tag, &[(width, side), (height, side), (h, 1), (v, 1)])
+}
+
+fn step_field(&[flags, first, number]: &StepNumbers) -> Vec<u8> {
+    field(2, &[(flags, 1), (first, 2), (number, 2)])
 }
 
 /// A field: its tag, its length, and each number in so many bytes.

@@ -1,14 +1,15 @@
 //! The rectangle of a channel at a grid position.
 
-use crate::{refusal, MAX_SHIFT};
+use crate::list::Channel;
+use crate::refusal;
 
 /// What a rectangle call is given.
 #[derive(Clone, Copy, Debug, PartialEq, Eq)]
 pub struct Query {
     /// The channel's width.
-    pub width: u16,
+    pub width: u32,
     /// The channel's height.
-    pub height: u16,
+    pub height: u32,
     /// Its horizontal shift; 255 in both for meta.
     pub hshift: u8,
     /// Its vertical shift.
@@ -31,18 +32,15 @@ const HF: u8 = 2;
 
 /// x, y, width and height, or the refusal of question 4 or 13.
 pub fn grid_rect(query: &Query) -> Result<[u32; 4], u32> {
-    let shifts = (query.hshift, query.vshift);
-    let meta = shifts == (255, 255);
-    if !meta && (query.hshift > MAX_SHIFT || query.vshift > MAX_SHIFT) {
-        return Err(refusal::FORM);
-    }
+    let shifts = [query.hshift.into(), query.vshift.into()];
+    let channel = Channel::of_numbers([query.width, query.height, shifts[0], shifts[1]])?;
     if ![128, 256, 512, 1024].contains(&query.group) {
         return Err(refusal::KIND);
     }
     let lf = 8 * query.group;
     match (query.output, query.stored) {
-        (NONE, NONE) => Ok([0, 0, query.width.into(), query.height.into()]),
-        _ if meta => Err(refusal::KIND),
+        (NONE, NONE) => Ok([0, 0, query.width, query.height]),
+        _ if channel.meta() => Err(refusal::KIND),
         (LF, NONE | LF) => Ok(cut(query, lf)),
         (HF, NONE | LF | HF) => Ok(cut(query, query.group)),
         _ => Err(refusal::KIND),
@@ -65,9 +63,9 @@ fn cut(query: &Query, dimension: u32) -> [u32; 4] {
 }
 
 /// Start and size of the tile at a position along one side.
-fn span(side: u16, at: u16, tile: u32) -> (u32, u32) {
+fn span(side: u32, at: u16, tile: u32) -> (u32, u32) {
     let start = u32::from(at) * tile;
-    let left = u32::from(side).saturating_sub(start);
+    let left = side.saturating_sub(start);
     (start, left.min(tile))
 }
 

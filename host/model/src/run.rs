@@ -77,7 +77,7 @@ fn step_back(list: &[Channel], step: &Step, samples: &mut [i32], work: &mut [i32
         (avg, avgs) = avgs.split_at(average.samples());
         (res, residuals) = residuals.split_at(residual.samples());
         (out, rest) = rest.split_at_mut(channel.samples());
-        let (w, h) = (channel.width.into(), channel.height.into());
+        let (w, h) = channel.size();
         if step.horizontal {
             rows_back(w, avg, res, &[], &[], out);
         } else {
@@ -100,7 +100,7 @@ fn step_forward(list: &[Channel], step: &Step, samples: &mut [i32], work: &mut [
         (input, from) = from.split_at(channel.samples());
         (avg, avgs) = avgs.split_at_mut(average.samples());
         (res, residuals) = residuals.split_at_mut(residual.samples());
-        let (w, h) = (channel.width.into(), channel.height.into());
+        let (w, h) = channel.size();
         if step.horizontal {
             rows_forward(w, input, avg, res);
         } else {

@@ -60,7 +60,7 @@ fn fits(sizes: &Sizes, next: usize, prev: usize) -> bool {
     let (averages, across) = turn(sizes.avg);
     let (residuals, residual_across) = turn(sizes.residual);
     let (along, output_across) = turn(sizes.output);
-    let short = |side: usize| side <= MAX_SIDE;
+    let short = |side: usize| side <= MAX_SIDE as usize;
     let line = |length: usize| length == 0 || length == across;
     [averages, residuals, along, across].into_iter().all(short)
         && (averages == residuals || averages == residuals + 1)
