@@ -29,6 +29,12 @@ fn sound() -> Vec<Vec<u8>> {
         Record::new()
             .shifted_channel(9, 2, 29, 30)
             .step(step(true, true, 0, 1)),
+        Record::new().meta_channel(65_536, 0).channel(9, 9),
+        Record::new()
+            .channel(3, 1_048_575)
+            .channel(7, 5)
+            .shifted_channel(65_537, 0, 1, 2)
+            .step(step(false, false, 0, 2)),
     ];
     records.map(|record| record.bytes().to_vec()).to_vec()
 }
@@ -42,7 +48,7 @@ fn cut_at_each_byte() {
         }
     }
     tally.print("records cut at each byte");
-    assert_eq!(tally.met(), [0, 1, 3, 11]);
+    assert_eq!(tally.met(), [0, 1, 3, 9, 11]);
 }
 
 #[test]

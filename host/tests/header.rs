@@ -85,6 +85,13 @@ fn declarations_agree() {
     assert_eq!(rust_functions(include_str!("../src/ffi.rs")), header);
 }
 
+/// The room that the header promises is the crate's.
+#[test]
+fn rooms_agree() {
+    assert!(HEADER.contains("3,840 hold every") && squeeze::RECORD_ROOM == 3_840);
+    assert!(HEADER.contains("8,192 bytes hold every listing") && squeeze::LISTING_ROOM == 8_192);
+}
+
 #[test]
 fn c_example() {
     if Command::new("cc").arg("--version").output().is_err() {

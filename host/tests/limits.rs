@@ -7,7 +7,7 @@ use squeeze_compare::runs::{every_function, round_trips, Run};
 use squeeze_compare::{lists, must, records, Tally};
 use squeeze_model::listing;
 
-const SIDES: [u16; 8] = [0, 1, 2, 7, 8, 9, 16, 17];
+const SIDES: [u32; 8] = [0, 1, 2, 7, 8, 9, 16, 17];
 
 fn step(horizontal: bool, in_place: bool, first: u16, number: u16) -> Step {
     Step {
@@ -65,6 +65,12 @@ fn longest_sides() {
         (65_534, 3),
         (9, 65_535),
         (65_535, 0),
+        (65_536, 1),
+        (3, 65_537),
+        (65_536, 0),
+        (1_048_575, 1),
+        (1, 1_048_575),
+        (1_048_575, 0),
     ] {
         let record = Record::new().channel(width, height);
         let expected = if height == 0 { 9 } else { 0 };
@@ -184,8 +190,12 @@ fn sample_totals() {
         (plain(65_535, 256).channel(257, 1), 5, "one above"),
         (plain(4096, 4096).channel(1, 1), 5, "one above"),
         (plain(4096, 4096).channel(1, 0).step(first), 0, "an empty channel adds nothing"),
-        (plain(65_535, 65_535), 5, "the largest channel"),
-        (many(65_535), 5, "the largest list"),
+        (plain(65_536, 256), 0, "a strip, exact"),
+        (plain(1_048_575, 16).channel(16, 1), 0, "a strip and a channel, exact"),
+        (plain(16, 1_048_575).channel(17, 1), 5, "one above"),
+        (plain(65_536, 65_536), 5, "a product of 33 bits"),
+        (plain(1_048_575, 1_048_575), 5, "the largest channel"),
+        (many(1_048_575), 5, "the largest list"),
         (many(256).step(step(true, true, 0, 0)), 6, "256 channels, exact"),
     ];
     let mut random = Random::new(58);

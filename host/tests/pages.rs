@@ -124,8 +124,9 @@ fn records_of_numbers() {
     let [mut f0, mut f1, mut f2, mut f3] = fences();
     for k in 0..20_000 {
         let end = k % 2 == 0;
-        let Parts { channels, steps } = parts::some(&mut random);
-        let room = channels.len() / 4 * 9 + steps.len() / 3 * 8;
+        let parts = parts::some(&mut random);
+        let room = parts.bytes();
+        let Parts { channels, steps } = parts;
         let room = room.saturating_sub(random.below(2));
         let (mut model_record, mut model_length) = (vec![7; room], [9]);
         let record = f2.lend(&model_record, end);
@@ -151,8 +152,8 @@ fn rectangles() {
     let [mut fence] = fences();
     for k in 0..20_000 {
         let query = squeeze::GridQuery {
-            width: random.bits() as u16,
-            height: random.bits() as u16,
+            width: random.below(1_100_000) as u32,
+            height: random.below(1_100_000) as u32,
             hshift: random.below(32) as u8,
             vshift: random.below(9) as u8,
             output: squeeze::Kind(random.below(3) as u8),

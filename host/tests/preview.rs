@@ -80,7 +80,7 @@ fn bad_files() {
         (b"P5 -9 9 255\n", "no number for the width"),
         (b"P5 0 9 255\n", "0 by 9 has no samples"),
         (b"P5 9 0 255\n", "9 by 0 has no samples"),
-        (b"P5 65536 1 255\n", "too large"),
+        (b"P5 1048576 1 255\n", "too large"),
         (b"P5 4097 4096 255\n", "too large"),
         (b"P6 4096 4096 255\n", "too large"),
         (b"P5 99999999999999999999999 1 255\n", "too large"),
@@ -124,6 +124,7 @@ fn flat_pictures_give_flat_previews() {
         (100, 3),
         (1, 100),
         (65_535, 2),
+        (3, 70_000),
         (640, 480),
     ] {
         for channels in [1, 3] {

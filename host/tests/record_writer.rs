@@ -64,20 +64,20 @@ fn refusals() {
     let steps = |number, step| parts(&[plain(9, 9)], &vec![step; number]);
     let one = |channel| parts(&[channel], &[]);
     let step = |step| parts(&[plain(9, 9)], &[step]);
-    let big = 65_536;
+    let (big, long) = (65_536, 1_048_576);
     let cases = [
         (parts(&[], &[]), 3, "no number at all"),
         (rest(&parts(&[], &[]), 3, 0), 3, "three numbers are no channel"),
         (rest(&parts(&[], &[[9, 9, 9]]), 3, 2), 3, "no channel, before flags and remainders"),
         (many(257, 0), 3, "257 channels"),
-        (many(257, big), 3, "257 channels, before their sides"),
+        (many(257, long), 3, "257 channels, before their sides"),
         (steps(65, [1, 0, 1]), 3, "65 steps"),
         (steps(65, [4, big, 0]), 3, "65 steps, before their flags and ranges"),
-        (one(plain(big, 9)), 4, "a width of 65,536"),
-        (one(plain(9, big)), 4, "a height of 65,536"),
-        (one(plain(big + 9, 9)), 4, "a width that would be 9 if cut"),
+        (one(plain(long, 9)), 4, "a width of 1,048,576"),
+        (one(plain(9, long)), 4, "a height of 1,048,576"),
+        (one(plain(long + 9, 9)), 4, "a width that would be 9 if cut"),
         (one(plain(u32::MAX, u32::MAX)), 4, "the largest sides, before samples"),
-        (one(meta(big, 0)), 4, "a meta channel's width, before the default plan"),
+        (one(meta(long, 0)), 4, "a meta channel's width, before the default plan"),
         (one([9, 9, 31, 0]), 4, "a horizontal shift of 31"),
         (one([9, 9, 0, 31]), 4, "a vertical shift of 31"),
         (one([9, 9, 256, 0]), 4, "a shift that would be 0 if cut"),
@@ -92,7 +92,7 @@ fn refusals() {
         (parts(&[plain(9, 9)], &[[1, 9, 9], [4, 0, 1]]), 4, "a later step's flags, before a range"),
         (parts(&[plain(4096, 4096), plain(1, 1)], &[[4, 0, 1]]), 4, "flags, before samples"),
         (parts(&[plain(4096, 4096), plain(1, 1)], &[]), 5, "one sample above 16,777,216"),
-        (parts(&[plain(65_535, 65_535); 256], &[[0, 0, 0]]), 5, "the largest list, before the range"),
+        (parts(&[plain(long - 1, long - 1); 256], &[[0, 0, 0]]), 5, "the largest list, before the range"),
         (one(meta(65_535, 257)), 5, "samples, before the default plan"),
         (one(meta(9, 9)), 11, "a default plan and only a meta channel"),
         (rest(&one(meta(9, 9)), 1, 2), 11, "two numbers are no step; the plan before remainders"),
@@ -126,7 +126,8 @@ fn refusals() {
         (rest(&steps(64, [1, 0, 1]), 0, 2), 10, "64 steps and two numbers are not 65"),
         (sound(), 0, "all accepted"),
         (one(plain(0, 0)), 0, "an empty channel"),
-        (one(plain(65_535, 256)), 0, "the longest side"),
+        (one(plain(65_535, 256)), 0, "the longest side of tag 1"),
+        (one(plain(long - 1, 16)), 0, "the longest side"),
         (one([9, 9, 29, 29]), 0, "shifts that the default plan makes 30"),
         (parts(&[[1, 1, 30, 30]; 256], &[]), 0, "256 channels, shifts 30, no step to take"),
         (parts(&[meta(1, 1)], &[[2, 0, 1]; 64]), 0, "64 steps"),
@@ -139,12 +140,14 @@ fn refusals() {
     assert_eq!(tally.met(), [0, 3, 4, 5, 6, 7, 8, 9, 10, 11, 12]);
 }
 
-/// What a number that no field holds is answered with, whatever the model says.
-fn refusal_of(place: usize, channels: usize) -> u32 {
-    if place < channels || (place - channels).is_multiple_of(3) {
-        4
-    } else {
-        6
+/// The largest number that any place like this one takes, and what a larger one
+/// is answered with, whatever the model says.
+fn largest_at(place: usize, channels: usize) -> (u32, u32) {
+    match place.checked_sub(channels) {
+        None if place % 4 < 2 => (1_048_575, 4),
+        None => (255, 4),
+        Some(place) if place.is_multiple_of(3) => (3, 4),
+        Some(_) => (65_535, 6),
     }
 }
 
@@ -169,8 +172,9 @@ fn every_number_in_every_place() {
             let mut parts = base.clone();
             *number(&mut parts, place) = value;
             let answer = must(parts.compare());
-            if value > 65_535 {
-                assert_eq!(answer, refusal_of(place, channels), "{value} in {place}");
+            let (largest, refusal) = largest_at(place, channels);
+            if value > largest {
+                assert_eq!(answer, refusal, "{value} in {place}");
             }
             tally.add(answer);
         }
@@ -184,7 +188,20 @@ fn two_numbers_in_every_two_places() {
     let mut tally = Tally::default();
     let base = sound();
     let places = base.channels.len() + base.steps.len();
-    let values = [0, 1, 3, 30, 31, 255, 256, 65_535, 65_536, u32::MAX];
+    let values = [
+        0,
+        1,
+        3,
+        30,
+        31,
+        255,
+        256,
+        65_535,
+        65_536,
+        1_048_575,
+        1_048_576,
+        u32::MAX,
+    ];
     for first in 0..places {
         for second in first + 1..places {
             for value in values {
@@ -233,9 +250,13 @@ fn counts_and_remainders() {
 fn lengths_of_slices() {
     let longest = parts(&[meta(1, 1); 192], &[[2, 0, 1]; 64]);
     assert_eq!(longest.bytes(), 192 * 9 + 64 * 8);
+    let strips = parts(&[meta(65_536, 1); 192], &[[2, 0, 1]; 64]);
+    assert_eq!(strips.bytes(), 192 * 13 + 64 * 8);
     let refused = parts(&[meta(9, 9)], &[]);
     let one = parts(&[plain(20, 9)], &[]);
-    for (parts, answer) in [(&longest, 0), (&sound(), 0), (&one, 0), (&refused, 11)] {
+    let sound = sound();
+    let accepted = [&longest, &strips, &sound, &one].map(|parts| (parts, 0));
+    for (parts, answer) in accepted.into_iter().chain([(&refused, 11)]) {
         let need = parts.bytes();
         for room in [0, 1, 8, need - 1, need, need + 1, 2 * need, 4096] {
             for numbers in 0..=3 {
@@ -254,7 +275,7 @@ fn lengths_of_slices() {
 #[test]
 fn small_lists_exhaustively() {
     let mut tally = Tally::default();
-    let sides = [0, 1, 8, 9, 65_535, 65_536];
+    let sides = [0, 1, 8, 9, 65_535, 65_536, 1_048_575, 1_048_576];
     let shifts = [0, 29, 30, 31, 255, 256, 511];
     let mut steps = vec![vec![]];
     for flags in [0, 1, 2, 3, 4, 256, 259] {
@@ -265,8 +286,8 @@ fn small_lists_exhaustively() {
         }
     }
     for code in 0..sides.len().pow(2) * shifts.len().pow(2) {
-        let (w, h) = (sides[code % 6], sides[code / 6 % 6]);
-        let (hshift, vshift) = (shifts[code / 36 % 7], shifts[code / 252]);
+        let (w, h) = (sides[code % 8], sides[code / 8 % 8]);
+        let (hshift, vshift) = (shifts[code / 64 % 7], shifts[code / 448]);
         for steps in &steps {
             let parts = Parts {
                 channels: vec![w, h, hshift, vshift],

@@ -2,6 +2,7 @@
 //! run and the writer, an accepted one on a round trip in both directions.
 
 use squeeze_compare::random::Random;
+use squeeze_compare::records::strip_field;
 use squeeze_compare::runs::every_function;
 use squeeze_compare::{must, Tally};
 
@@ -51,6 +52,24 @@ fn channel_fields(sides: &[u8], shifts: &[u8]) -> Vec<Vec<u8>> {
     fields
 }
 
+/// Every field of tag 3 with sides of four bytes from these and shifts from those
+/// given.
+fn strip_fields(shifts: &[u8]) -> Vec<Vec<u8>> {
+    let mut sides = Vec::new();
+    for high in [[0, 0], [1, 0], [15, 0], [16, 0], [0, 1], [255, 255]] {
+        words(&[0, 255], 2, &mut |low| sides.push([low, &high].concat()));
+    }
+    let mut fields = Vec::new();
+    for width in &sides {
+        for height in &sides {
+            words(shifts, 2, &mut |shift| {
+                fields.push([&[3, 10, 0], &width[..], height, shift].concat());
+            });
+        }
+    }
+    fields
+}
+
 /// Every step field with flags and ranges from these.
 fn step_fields(flags: &[u8], ends: &[u16]) -> Vec<Vec<u8>> {
     let mut fields = Vec::new();
@@ -84,8 +103,10 @@ fn up_to_two_bytes() {
 fn every_head() {
     let mut check = Check::new();
     for tag in 0..=255 {
-        for length in [0, 1, 4, 5, 6, 7, 8, 255, 256, 261, 262, 65_535_u16] {
-            for rest in [0, 1, 4, 5, 6, 7, 8, 262] {
+        for length in [
+            0, 1, 4, 5, 6, 7, 8, 9, 10, 11, 255, 256, 261, 262, 266, 65_535_u16,
+        ] {
+            for rest in [0, 1, 4, 5, 6, 7, 8, 9, 10, 11, 262, 266] {
                 let mut bytes = vec![tag];
                 bytes.extend_from_slice(&length.to_le_bytes());
                 bytes.resize(3 + rest, 0);
@@ -94,7 +115,7 @@ fn every_head() {
         }
     }
     check.tally.print("every tag with some lengths");
-    assert_eq!(check.tally.met(), [0, 1, 2, 3]);
+    assert_eq!(check.tally.met(), [0, 1, 2, 3, 4]);
 }
 
 #[test]
@@ -104,6 +125,17 @@ fn one_channel_field() {
         check.record(&[&[1, 6, 0], body].concat());
     });
     check.tally.print("one channel field");
+    assert_eq!(check.tally.met(), [0, 4, 5, 9, 10, 11]);
+}
+
+/// Sides whose bytes are at the ends of tag 1, of the limit, and past it.
+#[test]
+fn one_strip_field() {
+    let mut check = Check::new();
+    for field in strip_fields(&[0, 20, 31, 255]) {
+        check.record(&field);
+    }
+    check.tally.print("one strip field");
     assert_eq!(check.tally.met(), [0, 4, 5, 9, 10, 11]);
 }
 
@@ -143,6 +175,28 @@ fn two_channels() {
     assert_eq!(check.tally.met(), [0, 4, 9, 10, 11]);
 }
 
+/// A strip and a channel in either order, meta or not, right or wrong, alone and
+/// before a step.
+#[test]
+fn strips_and_channels() {
+    let mut check = Check::new();
+    let channels = channel_fields(&[0, 9], &[0, 255]);
+    let steps = step_fields(&[0, 3], &[0, 1]);
+    for strip in strip_fields(&[0, 255]) {
+        for channel in &channels {
+            for pair in [[&strip, channel], [channel, &strip]] {
+                let pair = pair.map(|field| &field[..]).concat();
+                check.record(&pair);
+                for step in &steps {
+                    check.record(&[&pair[..], step].concat());
+                }
+            }
+        }
+    }
+    check.tally.print("a strip and a channel");
+    assert_eq!(check.tally.met(), [0, 4, 5, 6, 8, 9, 11]);
+}
+
 #[test]
 fn two_channels_and_a_step() {
     let mut check = Check::new();
@@ -164,7 +218,8 @@ fn step_and_channel() {
     let mut check = Check::new();
     let channels = channel_fields(&[0, 5], &[0, 31, 255]);
     let steps = step_fields(&[0, 3, 4], &[0, 1]);
-    for channel in &channels {
+    let strips = [65_536, 1].map(|width| strip_field(width, 1, 0, 0));
+    for channel in channels.iter().chain(&strips) {
         for step in &steps {
             check.record(&[&step[..], channel].concat());
             check.record(&[&channel[..], step, channel].concat());

@@ -21,7 +21,7 @@ fn one() -> Record {
     Record::new().channel(9, 9)
 }
 
-fn channels(number: usize, width: u16) -> Record {
+fn channels(number: usize, width: u32) -> Record {
     (0..number).fold(Record::new(), |record, _| record.channel(width, 1))
 }
 
@@ -59,7 +59,7 @@ fn form_of_a_record() {
         (long[..8].to_vec(), 1, "a body cut by one byte"),
         (then(one(), &[1]), 1, "a second head cut"),
         (then(one(), &[0, 0, 0]), 2, "tag 0"),
-        (then(one(), &[3, 0, 0]), 2, "tag 3"),
+        (then(one(), &[4, 0, 0]), 2, "tag 4"),
         (vec![1, 5, 0, 9, 0, 9, 0, 0], 2, "a channel with a step's length"),
         (vec![2, 6, 0, 1, 0, 0, 1, 0, 0], 2, "a step with a channel's length"),
         (vec![1, 0, 0], 2, "a channel of length 0"),
@@ -178,7 +178,7 @@ const TILES: [TileCase; 17] = [
     ([(2, 3), (2, 3), (5, 3)], [0, 0], [6, 6, 15], 13, "output width"),
     ([(2, 3), (2, 4), (4, 3)], [0, 0], [6, 8, 12], 13, "residual height"),
     ([(2, 3), (2, 3), (4, 2)], [0, 0], [6, 6, 8], 13, "output height"),
-    ([(32768, 1), (32768, 1), (65536, 1)], [0, 0], [0, 0, 0], 13, "a side of 65,536"),
+    ([(1 << 19, 1), (1 << 19, 1), (1 << 20, 1)], [0, 0], [0, 0, 0], 13, "a side of 1,048,576"),
     ([(2, 3), (2, 3), (4, 3)], [2, 0], [6, 6, 12], 13, "a next line too short"),
     ([(2, 3), (2, 3), (4, 3)], [0, 4], [0, 6, 12], 13, "a line, before the slices"),
     ([(2, 3), (2, 3), (4, 3)], [0, 0], [5, 6, 12], 12, "averages too short"),

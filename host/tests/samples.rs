@@ -131,7 +131,7 @@ fn corner_pictures() {
     for code in 0..few.len().pow(4) {
         samples.extend([0, 1, 2, 3].map(|k| few[code / few.len().pow(k) % few.len()]));
     }
-    let lines = (samples.len() / 4) as u16;
+    let lines = (samples.len() / 4) as u32;
     let step = |horizontal| squeeze::Step {
         horizontal,
         in_place: true,
@@ -154,7 +154,7 @@ fn default_plans_over_all_bits() {
     let mut random = Random::new(82);
     for (width, height, count) in [(257, 129, 3), (64, 64, 4), (100, 333, 1), (333, 100, 2)] {
         let record = (0..count).fold(Record::new(), |r, _| r.channel(width, height));
-        let number = usize::from(width) * usize::from(height) * count;
+        let number = (width * height) as usize * count;
         let any: Vec<i32> = (0..number).map(|_| random.bits() as i32).collect();
         let mixed = random.samples(number);
         let extremes: Vec<i32> = (0..number)

@@ -209,7 +209,10 @@ fn full_records() -> Vec<(Vec<u8>, u32, &'static str)> {
         (plain(256, 1, 1), 0, "256 channels, no step"),
         (plain(1, 4097, 4095), 0, "a default plan of 19 steps"),
         (plain(3, 2049, 2729), 0, "a default plan of 20 steps, two of them not in place"),
-        (plain(1, 65_535, 256), 0, "a default plan on the longest side"),
+        (plain(1, 1_048_575, 16), 0, "a default plan on the longest side"),
+        (plain(1, 16, 1_048_575), 0, "a default plan on the longest side, across"),
+        (steps(meta(192, 65_536, 1), &in_first, 64), 0, "256 channels after 64 steps, strips among them"),
+        (meta(255, 1_048_575, 0).channel(8, 8), 0, "255 strips without samples"),
         (plain(13, 1100, 1100), 0, "a default plan with 221 channels after it"),
         (meta(200, 1, 1).channel(700, 300), 0, "a default plan after 200 meta channels"),
         (steps(plain(192, 4, 3), &out_each, 63).step(step(true, true, 0, 9)), 10, "64th step refused"),
@@ -225,7 +228,7 @@ fn long_plan(random: &mut Random) -> Vec<u8> {
     let (metas, others) = (random.below(60), 1 + random.below(150));
     let mut record = Record::new();
     for k in 0..metas + others {
-        let (w, h) = (random.below(9) as u16, random.below(9) as u16);
+        let (w, h) = (random.below(9) as u32, random.below(9) as u32);
         record = if k < metas {
             record.meta_channel(w, h)
         } else {

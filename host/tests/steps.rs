@@ -25,7 +25,7 @@ fn steps(count: u16) -> Vec<Step> {
 }
 
 /// Records with one channel of each size, meta or not.
-fn one_channel(largest: u16) -> Vec<Record> {
+fn one_channel(largest: u32) -> Vec<Record> {
     let mut records = Vec::new();
     for width in 0..=largest {
         for height in 0..=largest {
@@ -37,7 +37,7 @@ fn one_channel(largest: u16) -> Vec<Record> {
 }
 
 /// Records with two channels: both plain, both meta, or the first meta.
-fn two_channels(sides: &[u16]) -> Vec<Record> {
+fn two_channels(sides: &[u32]) -> Vec<Record> {
     let mut records = Vec::new();
     for &w in sides {
         for &h in sides {

@@ -119,6 +119,12 @@ fn longest_sides() {
         (true, (65_535, 2)),
         (false, (2, 65_535)),
         (true, (1, 65_535)),
+        (true, (65_536, 3)),
+        (true, (1_048_575, 9)),
+        (true, (2, 1_048_575)),
+        (false, (9, 1_048_575)),
+        (false, (1_048_575, 3)),
+        (false, (1_048_575, 0)),
     ] {
         let sizes = fitting(horizontal, size);
         let lengths = sizes.map(|(w, h)| w * h);
@@ -164,12 +170,17 @@ fn part(
 impl Uncut {
     fn random(random: &mut Random) -> Uncut {
         let (along, across) = (1 + random.below(40), 1 + random.below(30));
+        let horizontal = random.once_in(2);
+        Uncut::of_sides(random, horizontal, along, across)
+    }
+
+    fn of_sides(random: &mut Random, horizontal: bool, along: usize, across: usize) -> Uncut {
         let outer = |random: &mut Random| {
             let length = if random.once_in(2) { across } else { 0 };
             random.samples(length)
         };
         Uncut {
-            horizontal: random.once_in(2),
+            horizontal,
             along,
             across,
             avg: random.samples((along - along / 2) * across),
@@ -289,6 +300,24 @@ fn cuts(random: &mut Random, side: usize, unit: usize) -> Vec<usize> {
     ends
 }
 
+/// A strip's tiles against the whole squeeze; gives how many there are.
+fn check_strip(
+    random: &mut Random,
+    uncut: &Uncut,
+    whole: &[i32],
+    across: [usize; 2],
+    ends: &[usize],
+) -> usize {
+    let outs = uncut.strip(random, across, ends);
+    for (along, out) in ends.windows(2).zip(&outs) {
+        let strides = uncut.strides(uncut.along);
+        let along = [along[0], along[1]];
+        let expected = part(whole, strides, along, across, uncut.horizontal);
+        assert!(*out == expected, "{along:?}, {across:?}");
+    }
+    outs.len()
+}
+
 #[test]
 fn cut_squeezes() {
     let mut random = Random::new(35);
@@ -297,17 +326,34 @@ fn cut_squeezes() {
         let uncut = Uncut::random(&mut random);
         let whole = uncut.whole();
         for across in cuts(&mut random, uncut.across, 1).windows(2) {
-            let across = [across[0], across[1]];
             let ends = cuts(&mut random, uncut.along, 2);
-            let outs = uncut.strip(&mut random, across, &ends);
-            for (along, out) in ends.windows(2).zip(outs) {
-                let strides = uncut.strides(uncut.along);
-                let along = [along[0], along[1]];
-                assert_eq!(out, part(&whole, strides, along, across, uncut.horizontal));
-                tiles += 1;
-            }
+            let across = [across[0], across[1]];
+            tiles += check_strip(&mut random, &uncut, &whole, across, &ends);
         }
     }
     println!("cut squeezes: 2000 cases, {tiles} tiles");
     assert!(tiles > 10_000);
+}
+
+/// The longest sides cut, along the squeeze and across it, into tiles above and
+/// below the longest side of tag 1.
+#[test]
+fn cut_long_sides() {
+    let mut random = Random::new(36);
+    let mut tiles = 0;
+    let long = [0, 65_534, 65_536, 131_074, 1_048_574, 1_048_575];
+    for horizontal in [true, false] {
+        let along = Uncut::of_sides(&mut random, horizontal, 1_048_575, 3);
+        let whole = along.whole();
+        for across in [[0, 2], [2, 3]] {
+            tiles += check_strip(&mut random, &along, &whole, across, &long);
+        }
+        let across = Uncut::of_sides(&mut random, horizontal, 3, 1_048_575);
+        let whole = across.whole();
+        for ends in long.windows(2) {
+            let ends = [ends[0], ends[1]];
+            tiles += check_strip(&mut random, &across, &whole, ends, &[0, 2, 3]);
+        }
+    }
+    assert_eq!(tiles, 2 * (2 * 5 + 5 * 2));
 }

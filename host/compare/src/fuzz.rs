@@ -2,6 +2,7 @@
 
 use crate::random::Random;
 use crate::runs::Run;
+use crate::strips::{self, Way, WAYS};
 use crate::tiles::Tile;
 use crate::{lists, parts, records, rects};
 use squeeze::{GridQuery, Kind, LISTING_ROOM, RECORD_ROOM};
@@ -21,16 +22,28 @@ pub const FUNCTIONS: [(&str, &[usize]); 6] = [
 /// Answers 0 to 14.
 pub const ANSWERS: usize = 15;
 
+/// The answer and the way in which a strip was met, if one was; or what differs.
+type Met = Result<(u32, Option<Way>), String>;
+
 /// How often each function gave each answer, and what differed.
 #[derive(Default)]
 pub struct Report {
     /// One row for each function, one column for each answer.
     pub met: [[u64; ANSWERS]; FUNCTIONS.len()],
+    /// How often strips were met in each of their ways.
+    pub strips: [u64; WAYS.len()],
     /// The first differences found.
     pub differences: Vec<String>,
 }
 
 impl Report {
+    /// The ways in which no call met a strip.
+    pub fn strips_never_met(&self) -> Vec<Way> {
+        let ways = WAYS.iter().zip(self.strips);
+        let never = ways.filter(|(_, times)| *times == 0);
+        never.map(|((way, _), _)| *way).collect()
+    }
+
     /// The answers that a function can give and didn't.
     pub fn never_met(&self) -> Vec<(&'static str, usize)> {
         let mut missing = Vec::new();
@@ -41,9 +54,15 @@ impl Report {
         missing
     }
 
-    fn add(&mut self, function: usize, answer: Result<u32, String>) {
-        match answer {
-            Ok(answer) => self.met[function][answer as usize] += 1,
+    fn add(&mut self, function: usize, met: Met) {
+        match met {
+            Ok((answer, way)) => {
+                self.met[function][answer as usize] += 1;
+                if let Some(way) = way {
+                    let at = WAYS.iter().position(|known| known.0 == way);
+                    self.strips[at.expect("every way is listed")] += 1;
+                }
+            }
             Err(text) => self.differences.push(text),
         }
     }
@@ -69,16 +88,23 @@ pub fn run(count: u64, seed: u64) -> Report {
     report
 }
 
-/// Samples up to which a run is given slices of the right length.
+/// Samples up to which a run is given slices of the right length, mostly and now
+/// and then, which is for strips.
 const LARGEST: usize = 1 << 14;
+const LARGEST_STRIP: usize = 1 << 18;
 
-fn whole_run(random: &mut Random, back: bool) -> Result<u32, String> {
+fn whole_run(random: &mut Random, back: bool) -> Met {
     let bytes = records::some(random);
     let samples = match record::judge(&bytes) {
         Ok(plan) => list::total(plan.layout()),
         Err(_) => random.below(20),
     };
-    let fitting = if samples > LARGEST { 40 } else { samples };
+    let largest = if random.once_in(4) {
+        LARGEST_STRIP
+    } else {
+        LARGEST
+    };
+    let fitting = if samples > largest { 40 } else { samples };
     let mut lengths = [fitting; 3];
     if random.once_in(6) {
         let k = random.below(3);
@@ -92,15 +118,41 @@ fn whole_run(random: &mut Random, back: bool) -> Result<u32, String> {
         output: &output,
         work: &work,
     };
-    Ok(run.compare()?.answer)
+    let answer = run.compare()?.answer;
+    Ok((answer, strips::of_run(&run, answer)))
 }
 
-fn tile(random: &mut Random) -> Result<u32, String> {
+/// Sides of a tile around its limits.
+const TILE_SIDES: [usize; 11] = [
+    0,
+    1,
+    2,
+    65_535,
+    65_536,
+    1_048_575,
+    1_048_576,
+    1 << 25,
+    u32::MAX as usize,
+    1 << 32,
+    usize::MAX,
+];
+
+/// The length of a tile's slice or line, if that isn't too costly: up to that of a
+/// short strip.
+fn fitting(length: usize) -> usize {
+    if length <= 65_537 {
+        length
+    } else {
+        40
+    }
+}
+
+fn tile(random: &mut Random) -> Met {
     let horizontal = random.pick(&[0, 0, 0, 1, 1, 1, 2, u32::MAX]);
     let mut sizes = tile_sizes(random, horizontal != 0);
     if random.once_in(8) {
         let k = random.below(6);
-        let side = random.pick(&[0, 1, 2, 65_535, 65_536, 1 << 25, 1 << 32, usize::MAX]);
+        let side = random.pick(&TILE_SIDES);
         match k % 2 {
             0 => sizes[k / 2].0 = side,
             _ => sizes[k / 2].1 = side,
@@ -114,11 +166,11 @@ fn tile(random: &mut Random) -> Result<u32, String> {
     let line = |random: &mut Random| match random.below(12) {
         0 => random.below(20),
         1..=5 => 0,
-        _ => across.min(100),
+        _ => fitting(across),
     };
     let lines = [line(random), line(random)];
     let length = |random: &mut Random, (w, h): (usize, usize)| {
-        let fitting = w.saturating_mul(h).min(4000);
+        let fitting = fitting(w.saturating_mul(h));
         match random.below(20) {
             0 => random.pick(&[0, fitting + 1, fitting / 2]),
             _ => fitting,
@@ -133,7 +185,8 @@ fn tile(random: &mut Random) -> Result<u32, String> {
         inputs: [&inputs[0], &inputs[1], &inputs[2], &inputs[3]],
         out: &out,
     };
-    Ok(tile.compare()?.answer)
+    let answer = tile.compare()?.answer;
+    Ok((answer, strips::of_tile(&sizes, answer)))
 }
 
 /// Sizes that mostly fit an output rectangle.
@@ -147,8 +200,14 @@ fn tile_sizes(random: &mut Random, horizontal: bool) -> [(usize, usize); 3] {
             (65_535, 256),
             (65_535, 257),
             (4096, 4097),
-            (0, 65_536),
             (65_536, 1),
+            (1, 65_537),
+            (65_536, 65_536),
+            (1_048_575, 16),
+            (1_048_575, 17),
+            (0, 1_048_575),
+            (0, 1_048_576),
+            (1_048_576, 1),
         ]),
         _ => (side(random), side(random)),
     };
@@ -162,16 +221,17 @@ fn tile_sizes(random: &mut Random, horizontal: bool) -> [(usize, usize); 3] {
     }
 }
 
-fn listing_text(random: &mut Random) -> Result<u32, String> {
+fn listing_text(random: &mut Random) -> Met {
     let bytes = records::some(random);
     lists::compare(&bytes)?;
     let length = listing::listing(&bytes).map_or(40, |text| text.len());
     let rooms = [0, length - 1, length, length, length + 1, LISTING_ROOM];
     let (room, numbers) = (random.pick(&rooms), random.pick(&[0, 1, 1, 1, 1, 1, 2]));
-    lists::compare_room(&bytes, room, numbers)
+    let answer = lists::compare_room(&bytes, room, numbers)?;
+    Ok((answer, strips::of_record(&bytes, answer)))
 }
 
-fn record_of_numbers(random: &mut Random) -> Result<u32, String> {
+fn record_of_numbers(random: &mut Random) -> Met {
     let parts = parts::some(random);
     parts.compare()?;
     let bytes = parts.bytes();
@@ -184,14 +244,15 @@ fn record_of_numbers(random: &mut Random) -> Result<u32, String> {
         RECORD_ROOM,
     ];
     let (room, numbers) = (random.pick(&rooms), random.pick(&[0, 1, 1, 1, 1, 1, 2]));
-    Ok(parts.compare_room(room, numbers)?.0)
+    let (answer, _) = parts.compare_room(room, numbers)?;
+    Ok((answer, strips::of_parts(&parts, answer)))
 }
 
-fn grid_rect(random: &mut Random) -> Result<u32, String> {
+fn grid_rect(random: &mut Random) -> Met {
     let side = |random: &mut Random| match random.below(3) {
         0 => random.pick(&[0, 1, 127, 128, 1023, 1024, 1025, 8191, 8192, 65_535]),
-        1 => random.below(4096) as u16,
-        _ => random.bits() as u16,
+        1 => random.below(4096) as u32,
+        _ => random.below(1 << 20) as u32,
     };
     let shift = |random: &mut Random| random.pick(&[0, 0, 0, 1, 2, 3, 7, 10, 13, 14, 29, 30]);
     let mut query = GridQuery {
@@ -202,8 +263,8 @@ fn grid_rect(random: &mut Random) -> Result<u32, String> {
         output: Kind(random.below(3) as u8),
         stored: Kind(random.below(3) as u8),
         group: random.pick(&[128, 256, 512, 1024]),
-        gx: random.pick(&[0, 0, 1, 2, 3, 9, 64, 511, 65_535]),
-        gy: random.pick(&[0, 0, 1, 2, 3, 9, 64, 511, 65_535]),
+        gx: random.pick(&[0, 0, 1, 2, 3, 9, 64, 511, 8191, 65_535]),
+        gy: random.pick(&[0, 0, 1, 2, 3, 9, 64, 511, 8191, 65_535]),
     };
     match random.below(16) {
         0 => query.hshift = random.pick(&[30, 31, 254, 255]),
@@ -211,7 +272,10 @@ fn grid_rect(random: &mut Random) -> Result<u32, String> {
         2 => query.output = Kind(random.pick(&[0, 3, 255])),
         3 => query.stored = Kind(random.pick(&[0, 3, 255])),
         4 => query.group = random.pick(&[0, 64, 127, 129, 2048, u32::MAX]),
+        5 => query.width = random.pick(&records::LONG_SIDES),
+        6 => query.height = random.pick(&records::LONG_SIDES),
         _ => {}
     }
-    rects::compare(&query, random.pick(&[4, 4, 4, 4, 4, 4, 0, 3, 5]))
+    let answer = rects::compare(&query, random.pick(&[4, 4, 4, 4, 4, 4, 0, 3, 5]))?;
+    Ok((answer, strips::of_rect(&query, answer)))
 }

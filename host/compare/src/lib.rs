@@ -15,6 +15,7 @@ pub mod raw;
 pub mod records;
 pub mod rects;
 pub mod runs;
+pub mod strips;
 pub mod tiles;
 
 /// What both sides answered, and the samples they left in the output slice.

@@ -22,7 +22,7 @@ impl Parts {
         let mut parts = Parts::default();
         for c in &record.channels {
             let (h, v) = c.shifts.unwrap_or((255, 255));
-            let numbers = [c.width.into(), c.height.into(), h.into(), v.into()];
+            let numbers = [c.width, c.height, h.into(), v.into()];
             parts.channels.extend_from_slice(&numbers);
         }
         for s in &record.steps {
@@ -34,7 +34,10 @@ impl Parts {
 
     /// How many bytes the record of the whole groups has.
     pub fn bytes(&self) -> usize {
-        self.channels.len() / 4 * 9 + self.steps.len() / 3 * 8
+        let (channels, _) = self.channels.as_chunks::<4>();
+        let long = |c: &&[u32; 4]| c[0] > 65_535 || c[1] > 65_535;
+        let strips = channels.iter().filter(long).count();
+        13 * strips + 9 * (channels.len() - strips) + 8 * (self.steps.len() / 3)
     }
 
     /// The C function with `room` bytes for the record and `numbers` numbers for
@@ -127,8 +130,8 @@ impl Parts {
         };
         let channel = |&[width, height, h, v]: &[u32; 4]| {
             Some(Channel {
-                width: width.try_into().ok()?,
-                height: height.try_into().ok()?,
+                width,
+                height,
                 shifts: match (h, v) {
                     (255, 255) => None,
                     _ => Some((h.try_into().ok()?, v.try_into().ok()?)),
@@ -159,7 +162,7 @@ impl Parts {
 }
 
 /// Numbers at which an answer changes, for any place of a channel or step.
-pub const VALUES: [u32; 25] = [
+pub const VALUES: [u32; 29] = [
     0,
     1,
     2,
@@ -181,6 +184,10 @@ pub const VALUES: [u32; 25] = [
     65_536,
     65_537,
     131_071,
+    1_048_574,
+    1_048_575,
+    1_048_576,
+    1_048_577,
     1 << 24,
     1 << 31,
     u32::MAX - 1,
@@ -188,7 +195,7 @@ pub const VALUES: [u32; 25] = [
 ];
 
 /// What a number that is cut to its field would lose.
-pub const CUTS: [u32; 5] = [1 << 8, 1 << 16, 1 << 24, 1 << 31, u32::MAX << 16];
+pub const CUTS: [u32; 6] = [1 << 8, 1 << 16, 1 << 20, 1 << 24, 1 << 31, u32::MAX << 16];
 
 /// Some numbers: of a record of good form, or with a number or a count changed.
 pub fn some(random: &mut Random) -> Parts {

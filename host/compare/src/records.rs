@@ -7,14 +7,26 @@ use squeeze_model::list::{self, Channel};
 
 /// Sides around the places where something changes: nothing, one, the end of a
 /// block of eight, the default plan's stop.
-pub const SIDES: [u16; 12] = [0, 1, 2, 3, 5, 7, 8, 9, 15, 16, 17, 31];
+pub const SIDES: [u32; 12] = [0, 1, 2, 3, 5, 7, 8, 9, 15, 16, 17, 31];
+
+/// Sides around the longest of tag 1, around the longest of all, and the largest
+/// number.
+pub const LONG_SIDES: [u32; 7] = [
+    65_535,
+    65_536,
+    65_537,
+    1_048_574,
+    1_048_575,
+    1_048_576,
+    u32::MAX,
+];
 
 /// Numbers that a step's range may hold at a limit.
 const ENDS: [u16; 9] = [0, 1, 2, 3, 254, 255, 256, 65_534, 65_535];
 
 /// Some record: ordinary, at a limit, or any bytes; some of them damaged.
 pub fn some(random: &mut Random) -> Vec<u8> {
-    let mut bytes = match random.below(16) {
+    let mut bytes = match random.below(18) {
         0..=8 => ordinary(random),
         9 => many_channels(random),
         10 => many_steps(random),
@@ -22,6 +34,7 @@ pub fn some(random: &mut Random) -> Vec<u8> {
         12 => many_samples(random),
         13 => only_meta(random),
         14 => mixed_form(random),
+        15..=16 => strips(random),
         _ => (0..random.below(24)).map(|_| random.bits() as u8).collect(),
     };
     for _ in 0..random.pick(&[0, 0, 0, 0, 1, 1, 2]) {
@@ -70,6 +83,13 @@ fn add(record: Record, channel: &Channel) -> Record {
     })
 }
 
+/// A field of tag 3 with any sides and shifts; no sound record has it for a
+/// channel that fits tag 1.
+pub fn strip_field(width: u32, height: u32, hshift: u8, vshift: u8) -> Vec<u8> {
+    let (width, height) = (width.to_le_bytes(), height.to_le_bytes());
+    [&[3, 10, 0], &width[..], &height, &[hshift, vshift]].concat()
+}
+
 /// Adds steps, most of which fit the list as it then is.
 fn steps(random: &mut Random, record: Record, list: Vec<Channel>, number: usize) -> Vec<u8> {
     let mut record = record;
@@ -106,7 +126,7 @@ fn step(random: &mut Random, list: &[Channel]) -> Step {
 /// Around 256 channels, before or after the plan.
 fn many_channels(random: &mut Random) -> Vec<u8> {
     let number = random.pick(&[127, 128, 129, 253, 254, 255, 256, 257]);
-    let side = random.pick(&[1, 1, 2, 9]);
+    let side = random.pick(&[1, 1, 2, 9, 65_536]);
     let one = Channel {
         width: side,
         height: 1,
@@ -176,6 +196,12 @@ fn many_samples(random: &mut Random) -> Vec<u8> {
         (256, 65_535),
         (4097, 4095),
         (65_535, 65_535),
+        (65_536, 256),
+        (1_048_575, 16),
+        (16, 1_048_575),
+        (1_048_575, 17),
+        (65_536, 65_536),
+        (1_048_575, 1_048_575),
     ]);
     let mut record = Record::new().channel(width, height);
     for _ in 0..random.below(3) {
@@ -204,14 +230,57 @@ fn only_meta(random: &mut Random) -> Vec<u8> {
     steps(random, record, channels, number)
 }
 
+/// Strips among other channels, meta or not, a few with the wrong tag, and steps
+/// that mostly fit.
+fn strips(random: &mut Random) -> Vec<u8> {
+    let mut channels = Vec::new();
+    for _ in 0..random.pick(&[0, 0, 1, 2]) {
+        channels.push(strip(random, true));
+    }
+    for _ in 0..1 + random.below(3) {
+        channels.push(if random.once_in(2) {
+            strip(random, false)
+        } else {
+            channel(random, false)
+        });
+    }
+    let mut bytes = Vec::new();
+    for c in &channels {
+        let (hshift, vshift) = c.shifts.unwrap_or((255, 255));
+        bytes.extend(match random.below(24) {
+            0 => strip_field(c.width, c.height, hshift, vshift),
+            _ => add(Record::new(), c).bytes().to_vec(),
+        });
+    }
+    let number = random.pick(&[0, 1, 1, 2, 3]);
+    bytes.extend(steps(random, Record::new(), channels, number));
+    bytes
+}
+
+/// A channel with a long side and a short one.
+fn strip(random: &mut Random, meta: bool) -> Channel {
+    let long = match random.below(16) {
+        0 => random.pick(&LONG_SIDES),
+        1 => random.bits() as u32,
+        _ => random.pick(&[65_535, 65_536, 65_537, 1_048_575]),
+    };
+    let short = random.pick(&[0, 0, 0, 1, 1, 2, 3, 16]);
+    let turned = random.once_in(2);
+    Channel {
+        width: if turned { short } else { long },
+        height: if turned { long } else { short },
+        ..channel(random, meta)
+    }
+}
+
 /// Channels and steps in any order, some of them unsound.
 fn mixed_form(random: &mut Random) -> Vec<u8> {
     let mut bytes = Vec::new();
     for _ in 0..1 + random.below(5) {
-        let (mut tag, mut length) = random.pick(&[(1, 6), (1, 6), (2, 5)]);
+        let (mut tag, mut length) = random.pick(&[(1, 6), (1, 6), (2, 5), (3, 10)]);
         if random.once_in(8) {
-            tag = random.pick(&[0, 1, 2, 3]);
-            length = random.pick(&[0, 4, 5, 6, 7]);
+            tag = random.pick(&[0, 1, 2, 3, 4]);
+            length = random.pick(&[0, 4, 5, 6, 7, 9, 10, 11]);
         }
         bytes.extend_from_slice(&[tag, length, 0]);
         let odd = random.once_in(3);
@@ -232,7 +301,7 @@ pub fn damage(random: &mut Random, bytes: &mut Vec<u8>) {
     match random.below(6) {
         0 => bytes[at] = random.bits() as u8,
         1 => bytes[at] ^= 1 << random.below(8),
-        2 => bytes[at] = random.pick(&[0, 1, 2, 3, 5, 6, 30, 31, 255]),
+        2 => bytes[at] = random.pick(&[0, 1, 2, 3, 5, 6, 10, 15, 16, 30, 31, 255]),
         3 => bytes.truncate(at),
         4 => bytes.insert(at, random.bits() as u8),
         _ => drop(bytes.remove(at)),
