@@ -2,10 +2,11 @@
 //! function and compares with the model.
 //!
 //! `cargo run --release --example fuzz -- [COUNT [SEED]]`; 1,000,000 calls with
-//! seed 1 if not given. Exit status 1 if anything differs or a function never gave
-//! an answer that it can give.
+//! seed 1 if not given. Exit status 1 if anything differs, if a function never gave
+//! an answer that it can give, or if strips weren't met in all their ways.
 
 use squeeze_compare::fuzz::{run, Report, ANSWERS, FUNCTIONS};
+use squeeze_compare::strips::WAYS;
 
 fn main() {
     let words: Vec<String> = std::env::args().skip(1).collect();
@@ -20,11 +21,12 @@ fn main() {
     let (count, seed) = (word(0, 1_000_000), word(1, 1));
     let report = run(count, seed);
     print(&report, count, seed);
-    let missing = report.never_met();
-    if !missing.is_empty() {
-        println!("never met: {missing:?}");
+    let (missing, strips) = (report.never_met(), report.strips_never_met());
+    let all_met = missing.is_empty() && strips.is_empty();
+    if !all_met {
+        println!("never met: {missing:?} {strips:?}");
     }
-    if !missing.is_empty() || !report.differences.is_empty() {
+    if !all_met || !report.differences.is_empty() {
         std::process::exit(1);
     }
 }
@@ -47,6 +49,10 @@ fn print(report: &Report, count: u64, seed: u64) {
             print!(" {times:>7}");
         }
         println!();
+    }
+    println!("strips: how often each way was met");
+    for ((_, way), times) in WAYS.iter().zip(report.strips) {
+        println!("{times:>8} {way}");
     }
     println!("differences: {}", report.differences.len());
     for text in &report.differences {

@@ -9,7 +9,7 @@ const HEIGHT: usize = 80;
 
 fn main() -> Result<(), Refusal> {
     // Three channels of one size, and no steps: the default plan.
-    let channel = Channel::new(WIDTH as u16, HEIGHT as u16);
+    let channel = Channel::new(WIDTH as u32, HEIGHT as u32);
     let record = Record::from_parts(&[channel; 3], &[])?;
     let picture = photograph();
 

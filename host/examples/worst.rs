@@ -29,6 +29,11 @@ fn families() -> Vec<Plan> {
             }
         }
         plans.push(doubled(256, 65_535, &[true; 8], in_place));
+        // Strips, along and across.
+        plans.push(doubled(1_048_575, 16, &[true; 7], in_place));
+        plans.push(doubled(1_048_575, 16, &[false; 4], in_place));
+        plans.push(doubled(16, 1_048_575, &[false; 7], in_place));
+        plans.push(doubled(16, 1_048_575, &[true; 4], in_place));
     }
     plans.extend((1..=8).map(random));
     plans
@@ -43,7 +48,7 @@ fn random(seed: u64) -> Plan {
     for _ in 0..number {
         let width = random.pick(&[256, 300, 999, 1024, 4096, 65_535]);
         let height = (16_777_216 / number / width).min(65_535);
-        channels.push(Channel::new(width as u16, height as u16));
+        channels.push(Channel::new(width as u32, height as u32));
     }
     let mut draft = Draft::new(&channels);
     for _ in 0..64 {

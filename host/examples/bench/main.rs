@@ -27,6 +27,7 @@ struct Times {
 }
 
 const SIDES: [usize; 4] = [64, 1024, 2048, 4096];
+const STRIPS: [(usize, usize); 2] = [(1_048_575, 16), (16, 1_048_575)];
 const NAMES: [&str; 4] = ["tile, rows", "tile, columns", "rebuild", "write"];
 
 fn main() {
@@ -46,10 +47,19 @@ fn main() {
     );
     println!();
     println!(
-        "{:<16} {:>11} {:>9} {:>9} {:>9} {:>9} {:>9} {:>9} {:>9}",
-        "", "samples", "/ plain", "/ copy", "/ before", "ours ns", "plain ns", "copy ns", "before ns"
+        "{:<16} {:>12} {:>9} {:>9} {:>9} {:>9} {:>9} {:>9} {:>9}",
+        "",
+        "samples",
+        "/ plain",
+        "/ copy",
+        "/ before",
+        "ours ns",
+        "plain ns",
+        "copy ns",
+        "before ns"
     );
-    let rows: Vec<[Times; 4]> = SIDES.iter().map(|&side| measure(side, budget)).collect();
+    let rows = SIDES.map(|side| measure(side, side, budget));
+    let strips = STRIPS.map(|(width, height)| measure(width, height, budget));
     let runs = [
         plans::chroma(64),
         plans::chroma(591),
@@ -70,28 +80,30 @@ fn main() {
     ];
     let costly = costly.map(|plan| (measure_plan(&plan, budget), plan.name));
     print_ratios(&rows);
+    print_strips(&rows, &strips);
     print_costly(&rows, &costly);
 }
 
 /// The four rows of one picture size.
-fn measure(side: usize, budget: Duration) -> [Times; 4] {
-    let picture = photograph(side);
-    let record = Record::new().channel(side as u16, side as u16);
+fn measure(width: usize, height: usize, budget: Duration) -> [Times; 4] {
+    let picture = photograph(width, height);
+    let record = Record::new().channel(width as u32, height as u32);
+    let size = Size { width, height };
     let measured = [
-        tile(true, side, &picture, budget),
-        tile(false, side, &picture, budget),
+        tile(true, size, &picture, budget),
+        tile(false, size, &picture, budget),
         rebuild(record.bytes(), &picture, budget),
         write(record.bytes(), &picture, budget),
     ];
     for (name, times) in NAMES.iter().zip(&measured) {
-        print_row(name, &format!("{side} x {side}"), times);
+        print_row(name, &format!("{width} x {height}"), times);
     }
     measured
 }
 
 /// Rebuilding and writing by a plan of its own.
 fn measure_plan(plan: &Plan, budget: Duration) -> [Times; 2] {
-    let mut picture = photograph(4096);
+    let mut picture = photograph(4096, 4096);
     picture.truncate(plan.samples);
     let record = plan.record.bytes();
     let measured = [
@@ -106,11 +118,11 @@ fn measure_plan(plan: &Plan, budget: Duration) -> [Times; 2] {
 }
 
 /// Eight-bit samples: slow waves, an edge now and then, and some noise.
-fn photograph(side: usize) -> Vec<i32> {
+fn photograph(width: usize, height: usize) -> Vec<i32> {
     let mut random = Random::new(2026);
-    let mut picture = Vec::with_capacity(side * side);
-    for y in 0..side {
-        for x in 0..side {
+    let mut picture = Vec::with_capacity(width * height);
+    for y in 0..height {
+        for x in 0..width {
             let wave = (x as f64 / 61.0).sin() * 50.0 + (y as f64 / 47.0).cos() * 40.0;
             let edge = if (x / 96 + y / 80) % 5 == 0 { 35 } else { 0 };
             let noise = random.below(9) as i32 - 4;
@@ -121,24 +133,22 @@ fn photograph(side: usize) -> Vec<i32> {
 }
 
 /// One inverse squeeze over the whole picture as a single tile.
-fn tile(horizontal: bool, side: usize, picture: &[i32], budget: Duration) -> Times {
-    let size = Size {
-        width: side,
-        height: side,
-    };
+fn tile(horizontal: bool, size: Size, picture: &[i32], budget: Duration) -> Times {
+    let Size { width, height } = size;
     let sizes = TileSizes::of_output(horizontal, size);
+    let plain_size = |size: Size| (size.width, size.height);
     let plain_sizes = model::tile::Sizes {
         horizontal,
-        avg: (sizes.avg.width, sizes.avg.height),
-        residual: (sizes.residual.width, sizes.residual.height),
-        output: (side, side),
+        avg: plain_size(sizes.avg),
+        residual: plain_size(sizes.residual),
+        output: plain_size(size),
     };
-    let half = picture.len() / 2;
-    let (mut avg, mut residual) = (vec![0; half], vec![0; half]);
+    let samples = |size: Size| vec![0; size.width * size.height];
+    let (mut avg, mut residual) = (samples(sizes.avg), samples(sizes.residual));
     if horizontal {
-        model::forward::rows_forward(side, picture, &mut avg, &mut residual);
+        model::forward::rows_forward(width, picture, &mut avg, &mut residual);
     } else {
-        model::forward::columns_forward(side, side, picture, &mut avg, &mut residual);
+        model::forward::columns_forward(width, height, picture, &mut avg, &mut residual);
     }
     let ours = |out: &mut [i32], _: &mut [i32]| {
         squeeze::tile(&sizes, &avg, &residual, &[], &[], out).expect("accepted");
@@ -162,7 +172,7 @@ fn rebuild(record: &[u8], picture: &[i32], budget: Duration) -> Times {
         let pyramid = &pyramid;
         move |out: &mut [i32], work: &mut [i32]| rebuild(record, pyramid, out, work)
     });
-    let before = before.as_ref().map(|run| run as &dyn Fn(&mut [i32], &mut [i32]));
+    let before = before.as_ref().map(|run| run as &Before);
     race(picture, picture, ours, plain, before, budget)
 }
 
@@ -177,18 +187,21 @@ fn write(record: &[u8], picture: &[i32], budget: Duration) -> Times {
     let before = before::RUNS.map(|[_, write]| {
         move |out: &mut [i32], work: &mut [i32]| write(record, picture, out, work)
     });
-    let before = before.as_ref().map(|run| run as &dyn Fn(&mut [i32], &mut [i32]));
+    let before = before.as_ref().map(|run| run as &Before);
     race(picture, &pyramid, ours, plain, before, budget)
 }
 
+/// A call of the earlier core: output and work slice to its answer.
+type Before<'a> = dyn Fn(&mut [i32], &mut [i32]) -> u32 + 'a;
+
 /// Best time of each, taken in turns, after one untimed call of each whose
-/// output must be `expected`.
+/// output must be `expected`. An earlier core that refuses the call isn't timed.
 fn race(
     picture: &[i32],
     expected: &[i32],
     ours: impl Fn(&mut [i32], &mut [i32]),
     plain: impl Fn(&mut [i32], &mut [i32]),
-    before: Option<&dyn Fn(&mut [i32], &mut [i32])>,
+    before: Option<&Before>,
     budget: Duration,
 ) -> Times {
     let number = picture.len();
@@ -199,10 +212,11 @@ fn race(
     plain(&mut plain_out, &mut plain_work);
     assert!(out == expected, "the core's output is another");
     assert!(plain_out == expected, "plain Rust's output is another");
-    if let Some(before) = before {
-        before(&mut plain_out, &mut plain_work);
-        assert!(plain_out == expected, "the earlier core's output is another");
-    }
+    let before = before.filter(|before| before(&mut plain_out, &mut plain_work) == 0);
+    assert!(
+        plain_out == expected,
+        "the earlier core's output is another"
+    );
     target.copy_from_slice(picture);
     // Several calls make one measurement where a call is short.
     let calls = (1usize << 18).div_ceil(number);
@@ -217,7 +231,9 @@ fn race(
             black_box(&mut target);
         }));
         if let Some(before) = before {
-            best[3] = best[3].min(time(calls, || before(&mut plain_out, &mut plain_work)));
+            best[3] = best[3].min(time(calls, || {
+                before(&mut plain_out, &mut plain_work);
+            }));
         }
         rounds += 1;
     }
@@ -247,7 +263,7 @@ fn print_row(name: &str, samples: &str, times: &Times) {
     } = *times;
     let cell = |number: Option<f64>| number.map_or("-".into(), |number| format!("{number:.3}"));
     println!(
-        "{name:<16} {samples:>11} {:>9.2} {:>9.2} {:>9} {ours:>9.3} {plain:>9.3} {copy:>9.3} {:>9}",
+        "{name:<16} {samples:>12} {:>9.2} {:>9.2} {:>9} {ours:>9.3} {plain:>9.3} {copy:>9.3} {:>9}",
         ours / plain,
         ours / copy,
         cell(before.map(|before| ours / before)),
@@ -279,6 +295,20 @@ fn print_ratios(rows: &[[Times; 4]]) {
     let ours = large[2].ours / (large[0].ours + large[1].ours);
     let plain = large[2].plain / (large[0].plain + large[1].plain);
     println!("  ours {ours:.2}, plain {plain:.2}");
+}
+
+fn print_strips(rows: &[[Times; 4]], strips: &[[Times; 4]]) {
+    let [.., square] = rows else {
+        unreachable!("one row per side")
+    };
+    println!("time per sample over that at 4096 x 4096:");
+    for ((width, height), strip) in STRIPS.iter().zip(strips) {
+        let ratios = NAMES.iter().zip(strip).zip(square);
+        let ratios =
+            ratios.map(|((name, strip), square)| format!("{name} {:.2}", strip.ours / square.ours));
+        let ratios: Vec<String> = ratios.collect();
+        println!("  {width} x {height}: {}", ratios.join("; "));
+    }
 }
 
 fn print_costly(rows: &[[Times; 4]], costly: &[([Times; 2], String)]) {

@@ -80,10 +80,10 @@ impl Draft {
 }
 
 /// A channel of nearly 16,777,216 samples.
-const LARGE: (u16, u16) = (4096, 4095);
+const LARGE: (u32, u32) = (4096, 4095);
 
 /// So many channels of a size, then the large one.
-fn before_large(number: usize, width: u16, height: u16) -> Draft {
+fn before_large(number: usize, width: u32, height: u32) -> Draft {
     let mut channels = vec![Channel::new(width, height); number];
     channels.push(Channel::new(LARGE.0, LARGE.1));
     Draft::new(&channels)
@@ -114,7 +114,7 @@ pub fn shifts() -> Plan {
 }
 
 /// Steps on all channels, then, up to 64 steps, some that move all.
-pub fn doubled(width: u16, height: u16, horizontal: &[bool], in_place: bool) -> Plan {
+pub fn doubled(width: u32, height: u32, horizontal: &[bool], in_place: bool) -> Plan {
     let mut draft = Draft::new(&[Channel::new(width, height)]);
     for &horizontal in horizontal {
         draft = draft.double(horizontal, in_place);
@@ -130,7 +130,7 @@ pub fn doubled(width: u16, height: u16, horizontal: &[bool], in_place: bool) -> 
 }
 
 /// Three channels of one size, by the default plan: chroma steps first.
-pub fn chroma(side: u16) -> Plan {
+pub fn chroma(side: u32) -> Plan {
     Draft::new(&[Channel::new(side, side); 3]).finish(format!("three channels {side} x {side}"))
 }
 

@@ -14,7 +14,7 @@ pub struct Preview {
 /// Squeezes a picture with the default plan. The front of its pyramid holds one
 /// average for each of its channels, in order.
 pub fn preview(picture: &Picture) -> Result<Preview, Refusal> {
-    let channel = Channel::new(picture.width as u16, picture.height as u16);
+    let channel = Channel::new(picture.width as u32, picture.height as u32);
     let record = Record::from_parts(&vec![channel; picture.channels], &[])?;
     let pyramid = write_pyramid(record.bytes(), &picture.planes())?;
     shown(record.bytes(), &pyramid, picture.channels, picture.maxval)
@@ -39,11 +39,12 @@ pub fn shown(
 /// One picture of averages. The default plan squeezes the second and third
 /// channel once more; they are drawn by their nearest sample.
 fn assemble(averages: &[Channel], samples: &[i32], maxval: u16) -> Picture {
-    let (width, height) = (averages[0].width.into(), averages[0].height.into());
+    let size = |channel: &Channel| (channel.width as usize, channel.height as usize);
+    let (width, height) = size(&averages[0]);
     let mut out = vec![0; width * height * averages.len()];
     let mut start = 0;
     for (k, channel) in averages.iter().enumerate() {
-        let (w, h) = (usize::from(channel.width), usize::from(channel.height));
+        let (w, h) = size(channel);
         for y in 0..height {
             for x in 0..width {
                 let at = start + nearest(y, height, h) * w + nearest(x, width, w);

@@ -1,7 +1,7 @@
 //! Portable graymaps and pixmaps: P2, P3, P5 and P6.
 
 /// The core's limits, so that a bad file gets a message of its own.
-const MAX_SIDE: usize = 65_535;
+const MAX_SIDE: usize = 1_048_575;
 const MAX_SAMPLES: usize = 16_777_216;
 
 /// A picture, sample after sample as in the file: channels side by side.
