@@ -2,30 +2,35 @@
 -- list has one record, with both tags mixed, is `RecordUndone` of specs/Demands.antt; here stand what old records keep, the room that strips take,
 -- the default plan of a strip, and the limit in every call. Statements only; proofs/Strips.antt proves them.
 use mathlib.Core.Path.{_≡_}
-use mathlib.Core.Bool.{true}
+use mathlib.Core.Bool.{Bool, true, false, _&&_}
+use mathlib.Core.Logic.{_⊎_}
 use mathlib.Core.List.{List, [], _∷_}
 use Prim.Native.Nat.{ℕ, _+_, _<_, _≤_}
+use lib.Dec.{leb}
 use lib.ListN.{length}
 use Rattle.numbers.specs.Numbers.{maxSide, refusedField, refusedForm, refusedSamples, refusedSizes, refusedLength}
 use Rattle.channel.specs.declared.Channel.{Channel}
 use Rattle.channel.specs.Channel.{metaShift}
 use Rattle.list.specs.declared.ChannelList.{ChannelList}
 use Rattle.list.specs.declared.Step.{Step}
-use Rattle.list.specs.Lists.{channels, packed}
-use Rattle.list.specs.Questions.{channelOf, judgeList}
+use Rattle.list.specs.Lists.{maxChannels, maxSteps, channels, packed}
+use Rattle.list.specs.Questions.{channelOf, countAllowed, judgeList}
 use Rattle.tile.specs.Call as Tile
+use Rattle.tile.specs.Call.{Call}
 use Rattle.plan.specs.declared.Steps.{Steps}
 use Rattle.plan.specs.Steps as S
 use Rattle.plan.specs.Default.{step}
 use Rattle.plan.specs.Plans.{judgePlan}
 use Rattle.plan.specs.Longest.{LongestDefault}
-use Rattle.record.specs.Bytes.{stripField, channelField}
-use Rattle.record.specs.Reading.{answerOf, formOf}
+use Rattle.record.specs.Bytes.{isStrip, stripField, channelField}
+use Rattle.record.specs.Reading.{hasStripTag, fieldChannel, judgeChannelField, answerOf, formOf}
 use Rattle.record.specs.Records.{readAnswer, channelsOf, reachedOf, recordFor}
 use Rattle.record.specs.Laws.{AreBytes}
 use Rattle.listing.specs.Text.{space, newline, decimal, valueFrom, channelLine}
 use Rattle.listing.specs.Listing.{judgedBytes, listing}
 use Rattle.listing.specs.Putting.{listingRoom}
+use Rattle.numbered.specs.Numbered as Numbered
+use Rattle.numbered.specs.Numbered.{channelNumbers, stepNumbers, groups, judgeNumbers}
 use Rattle.before.specs.Laws.{noStrip, ReadAsBeforeLaw, WrittenAsBeforeLaw}
 use Rattle.rect.specs.Rect.{rectOf, refused}
 use Rattle.claims.specs.Table.{channel, record20by9, horizontal}
@@ -55,6 +60,10 @@ pub record Room : Type 0 where
 abbrev pub SidesWithin : List Channel → Type 0
 SidesWithin cs = (k : ℕ) → k < length cs → (channelOf cs k .width ≤ maxSide) × (channelOf cs k .height ≤ maxSide)
 
+-- a side above it
+abbrev pub Above : ℕ → ℕ → Type 0
+Above width height = (maxSide < width) ⊎ (maxSide < height)
+
 -- a number is printed whole: its digits stand for it
 abbrev pub PrintedWhole : ℕ → Type 0
 PrintedWhole n = valueFrom 0 (decimal n) ≡ n
@@ -64,6 +73,23 @@ pub record Limit : Type 0 where
   pub recorded : (bytes : List ℕ) → readAnswer bytes ≡ 0 → SidesWithin (channelsOf bytes) × SidesWithin (reachedOf bytes)
   pub printed : (bytes : List ℕ) → readAnswer bytes ≡ 0 → (k : ℕ) → k < length (reachedOf bytes)
       → PrintedWhole (channelOf (reachedOf bytes) k .width) × PrintedWhole (channelOf (reachedOf bytes) k .height)
+  -- "a side above the limit, is refused with 4": in any list with an allowed count, at any channel, in numbers likewise, in any field of a channel that
+  -- is not one too many, and in any rectangle call
+  pub list-refused : (l : ChannelList) → countAllowed (l .count) ≡ true → (k : ℕ) → k < length (channels l)
+      → Above (channelOf (channels l) k .width) (channelOf (channels l) k .height) → judgeList l ≡ refusedForm
+  pub numbers-refused : (ns ms : List ℕ) → (countAllowed (groups channelNumbers ns) && leb (groups stepNumbers ms) maxSteps) ≡ true → (k : ℕ)
+      → k < length (Numbered.channelsOf ns) → Above (channelOf (Numbered.channelsOf ns) k .width) (channelOf (Numbered.channelsOf ns) k .height)
+      → judgeNumbers ns ms ≡ refusedForm
+  pub field-refused : (bytes : List ℕ) (count : ℕ) (metas : Bool) → count < maxChannels → Above (fieldChannel bytes .width) (fieldChannel bytes .height)
+      → judgeChannelField bytes count metas ≡ refusedForm
+  pub rect-refused : (c : Channel) (output stored group gx gy : ℕ) → Above (c .width) (c .height) → rectOf c output stored group gx gy ≡ refused refusedForm
+  -- "tag 3 for it", a channel that fits tag 1, likewise
+  pub tag-refused : (bytes : List ℕ) (count : ℕ) (metas : Bool) → count < maxChannels → hasStripTag bytes ≡ true → isStrip (fieldChannel bytes) ≡ false
+      → judgeChannelField bytes count metas ≡ refusedForm
+  -- "in tile calls too, where question 12 still judges it": with 13, after 5
+  pub tile-refused : (c : Call) → Tile.areasAllowed c ≡ true
+      → Above (c .avgSides .width) (c .avgSides .height) ⊎ (Above (c .resSides .width) (c .resSides .height) ⊎ Above (c .outSides .width) (c .outSides .height))
+      → Tile.answer c ≡ refusedSizes
   -- 1,048,575 is accepted and 1,048,576 is not, nor is it taken for 0
   pub largest : judgeList (packed (channel 1_048_575 16 ∷ [])) ≡ 0
   pub above : judgeList (packed (channel 1_048_576 1 ∷ [])) ≡ refusedForm
