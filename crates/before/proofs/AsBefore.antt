@@ -1,25 +1,17 @@
 -- "Old records keep their bytes and meaning" (specs/Laws.antt). Assumes nothing.
-use mathlib.Core.Path.{_≡_, refl, sym, ap, _∙_}
-use mathlib.Core.Bool.{Bool, true, false, cond, not, and-eq-true-iff}
-use mathlib.Core.List.{List, [], _∷_, _++_}
-use Prim.Native.Nat.{ℕ, _<_, _≤_}
+use mathlib.Core.Path.{_≡_, refl}
+use mathlib.Core.Bool.{true, and-eq-true-iff}
+use mathlib.Core.List.{List, [], _∷_}
+use Prim.Native.Nat.{ℕ}
 use native.Mathlib.Omega.{arith}
 use lib.Dec.{eqb}
-use lib.ListN.{length}
 use borrow.Author.Tests.{eqb-true, not-true}
-use Rattle.numbers.specs.Numbers.{refusedLength}
 use Rattle.channel.specs.declared.Channel.{Channel}
-use Rattle.list.specs.declared.Step.{Step}
 use Rattle.list.specs.Tables.{all}
-use Rattle.list.specs.Lists as Lists
-use Rattle.list.specs.Questions as Questions
-use Rattle.plan.specs.Steps as S
-use Rattle.plan.specs.Plans as Plans
 use Rattle.plan.proofs.Turns.{by-test}
 use Rattle.record.specs.Bytes as Bytes
 use Rattle.record.specs.Bytes.{isStrip, shortField, channelField, joined}
-use Rattle.record.specs.Reading as Reading
-use Rattle.record.specs.Reading.{Form, formOf}
+use Rattle.record.specs.Reading.{formOf}
 use Rattle.record.specs.Records as Records
 use Rattle.record.specs.Records.{readAnswer, readOf, channelsOf, stepsOf}
 use Rattle.record.specs.Laws.{AreBytes}
@@ -29,7 +21,7 @@ use Rattle.listing.specs.Listing as Listing
 use Rattle.listing.specs.Listing.{listing}
 use Rattle.before.specs.Reading as Before
 use Rattle.before.specs.Listing as BeforeText
-use Rattle.before.specs.Laws.{noStrip, isShort, ReadAsBefore, ReadAsBeforeLaw, WrittenAsBeforeLaw}
+use Rattle.before.specs.Laws.{noStrip, isShort, ReadAsBeforeLaw, WrittenAsBeforeLaw}
 use Rattle.before.proofs.Forms.{form-same, form-short, judge-plan-same}
 use Rattle.before.proofs.Answers.{answer-few}
 use Rattle.before.proofs.Lines.{numbered-same, plan-same}

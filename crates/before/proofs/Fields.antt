@@ -1,18 +1,18 @@
 -- One field without tag 3: its questions are those of before, and what it holds fits 16 bits. Assumes nothing.
-use mathlib.Core.Path.{_≡_, refl, sym, ap, _∙_}
-use mathlib.Core.Bool.{Bool, true, false, cond, _&&_, _||_, not, or-false, and-true, and-assoc, true≢false, false≢true}
-use mathlib.Core.Logic.{_⊎_, inl, inr}
+use mathlib.Core.Path.{_≡_, refl, sym, _∙_}
+use mathlib.Core.Bool.{Bool, true, false, _&&_, _||_, not, or-false, and-true, and-assoc, true≢false, false≢true}
+use mathlib.Core.Logic.{inl, inr}
 use mathlib.Core.List.{List}
-use Prim.Native.Nat.{ℕ, _+_, _*_, _<_, _≤_}
+use Prim.Native.Nat.{ℕ, _≤_}
 use native.Mathlib.Omega.{arith}
-use lib.Dec.{eqb, leb, ltb}
+use lib.Dec.{eqb, ltb}
 use borrow.Author.Tests.{eq-eqb, le-ltb, ltb-false}
 use Rattle.channel.specs.declared.Channel.{Channel}
-use Rattle.channel.specs.Channel.{isMeta, shiftsAllowed, sidesFit, isAllowed}
+use Rattle.channel.specs.Channel.{isMeta, shiftsAllowed, isAllowed}
 use Rattle.channel.proofs.Sides.{sides-fit}
-use Rattle.record.specs.Bytes.{channelTag, channelLength, channelSize, stripTag, stripLength, stepSize, word, maxShortSide, isStrip}
+use Rattle.record.specs.Bytes.{channelTag, channelLength, channelSize, stripTag, stepSize, maxShortSide, isStrip}
 use Rattle.record.specs.Reading as New
-use Rattle.record.specs.Reading.{byteAt, tagOf, lengthOf, fieldSize, shortChannel, fieldChannel, hasStripTag}
+use Rattle.record.specs.Reading.{tagOf, lengthOf, fieldSize, shortChannel, fieldChannel, hasStripTag}
 use Rattle.record.specs.Laws.{AreBytes}
 use Rattle.record.proofs.Fields.{ChannelHead, is-step, is-channel}
 use Rattle.before.specs.Reading as Before

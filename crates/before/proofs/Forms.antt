@@ -1,10 +1,9 @@
 -- Bytes without a field of tag 3: field by field they are read as before, every channel read is no strip, and list and steps are judged as
 -- before. Assumes nothing.
-use mathlib.Core.Path.{_≡_, refl, sym, ap, _∙_}
-use mathlib.Core.Bool.{Bool, true, false, cond, _&&_, not, and-eq-true-iff}
+use mathlib.Core.Path.{_≡_, refl, _∙_}
+use mathlib.Core.Bool.{true, false, cond, _&&_, not, and-eq-true-iff}
 use mathlib.Core.List.{List, [], _∷_, _++_}
 use Prim.Native.Nat.{ℕ, zero, suc, _≤_}
-use native.Mathlib.Omega.{arith}
 use lib.Dec.{eqb, leb}
 use lib.ListN.{length, drop}
 use borrow.Author.Tests.{eqb-true, leb-true, not-true}
@@ -16,15 +15,16 @@ use Rattle.list.specs.Tables.{all}
 use Rattle.list.specs.Lists as Lists
 use Rattle.list.specs.Lists.{maxChannels, maxSteps, channels}
 use Rattle.list.specs.Questions as Questions
-use Rattle.list.specs.Questions.{ask, countAllowed, metaFirst}
+use Rattle.list.specs.Questions.{countAllowed}
+use Rattle.list.proofs.Asking.{cond-has}
 use Rattle.list.proofs.Maps.{all-append}
 use Rattle.list.proofs.Packed.{channels-packed}
 use Rattle.plan.specs.Steps as S
 use Rattle.plan.specs.Plans as Plans
 use Rattle.plan.proofs.Turns.{by-test}
-use Rattle.record.specs.Bytes.{stepSize, channelSize, isStrip}
+use Rattle.record.specs.Bytes.{stepSize, channelSize}
 use Rattle.record.specs.Reading as New
-use Rattle.record.specs.Reading.{Form, asked, fieldSize, hasStripTag, shortChannel, fieldChannel, fieldStep, finished}
+use Rattle.record.specs.Reading.{Form, refused, fieldSize, hasStripTag, shortChannel, fieldChannel, fieldStep, finished}
 use Rattle.record.specs.Laws.{AreBytes}
 use Rattle.record.proofs.WrittenRead.{dropped}
 use Rattle.before.specs.Reading as Before
@@ -82,13 +82,11 @@ unfolding New.formOf Before.formOf noStrip
 form-same bytes b h = fields-same (length bytes) bytes [] [] b h
 
 -- ---- what is read has no strip
-asked-short : (t : Bool) (number : ℕ) (next : Form) → all isShort (next .channels) ≡ true → all isShort (asked t number next .channels) ≡ true
-asked-short true number next h = h
-asked-short false number next h = refl
+abbrev Short : Form → Type 0
+Short form = all isShort (form .channels) ≡ true
 
-cond-short : (t : Bool) (x y : Form) → all isShort (x .channels) ≡ true → all isShort (y .channels) ≡ true → all isShort (cond t x y .channels) ≡ true
-cond-short true x y a b = a
-cond-short false x y a b = b
+finished-short : (cs : List Channel) (ss : List Step) → all isShort cs ≡ true → Short (finished cs ss)
+finished-short cs ss short = cond-has Short (leb 1 (length cs)) _ (refused refusedCount) short refl
 
 with-channel : (bytes : List ℕ) (cs : List Channel) → AreBytes bytes → hasStripTag bytes ≡ false → all isShort cs ≡ true
     → all isShort (cs ++ (fieldChannel bytes ∷ [])) ≡ true
@@ -96,19 +94,20 @@ with-channel bytes cs b t short =
     all-append isShort cs (fieldChannel bytes ∷ []) short (and-eq-true-iff (isShort (fieldChannel bytes)) true .1 (channel-short bytes b t, refl))
 
 fields-short : (turns : ℕ) (bytes : List ℕ) (cs : List Channel) (ss : List Step) → AreBytes bytes → noStripIn turns bytes ≡ true → all isShort cs ≡ true
-    → all isShort (New.readFields turns bytes cs ss .channels) ≡ true
-fields-short zero bytes cs ss b h short = asked-short (leb 1 (length cs)) refusedCount _ short
+    → Short (New.readFields turns bytes cs ss)
+fields-short zero bytes cs ss b h short = finished-short cs ss short
 fields-short (suc turns) bytes cs ss b h short =
     by-test (eqb (length bytes) 0)
-    (λ e. rw e (asked-short (leb 1 (length cs)) refusedCount _ short))
+    (λ e. rw e (finished-short cs ss short))
     (λ e.
     let f = no-strip-field turns bytes e h in
     let d = dropped bytes (fieldSize bytes) b in
     rw e
-    (asked-short (eqb (New.answerOf bytes cs ss) 0) (New.answerOf bytes cs ss) _
-    (cond-short (New.isStep bytes) _ _
+    (cond-has Short (eqb (New.answerOf bytes cs ss) 0) _ (refused (New.answerOf bytes cs ss))
+    (cond-has Short (New.isStep bytes) _ _
     (fields-short turns (drop (fieldSize bytes) bytes) cs _ d (f .1) short)
-    (fields-short turns (drop (fieldSize bytes) bytes) _ ss d (f .1) (with-channel bytes cs b (f .0) short)))))
+    (fields-short turns (drop (fieldSize bytes) bytes) _ ss d (f .1) (with-channel bytes cs b (f .0) short)))
+    refl))
 
 pub form-short : (bytes : List ℕ) → AreBytes bytes → noStrip bytes ≡ true → all isShort (New.formOf bytes .channels) ≡ true
 unfolding New.formOf noStrip

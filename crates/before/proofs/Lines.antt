@@ -1,20 +1,19 @@
 -- The text of before: a number below 100,000 has its digits in five places as in seven, so a plan on a list without a strip is listed as
 -- before. Assumes nothing.
-use mathlib.Core.Path.{_≡_, refl, sym, ap, _∙_}
-use mathlib.Core.Bool.{Bool, true, false, cond, not, and-eq-true-iff}
-use mathlib.Core.List.{List, [], _∷_, _++_}
-use Prim.Native.Nat.{ℕ, zero, suc, _+_, _/_, _%_, _<_, _≤_}
+use mathlib.Core.Path.{_≡_, refl, _∙_}
+use mathlib.Core.Bool.{true, and-eq-true-iff}
+use mathlib.Core.List.{List, [], _∷_}
+use Prim.Native.Nat.{ℕ, suc, _/_, _<_, _≤_}
 use native.Mathlib.Omega.{arith}
-use lib.Dec.{eqb, leb, ltb}
+use lib.Dec.{ltb}
 use lib.ListN.{length}
-use borrow.Author.Tests.{ltb-false, lt-ltb}
-use Rattle.numbers.specs.Numbers.{refusedForm, refusedDefault}
+use borrow.Author.Tests.{ltb-false}
 use Rattle.channel.specs.declared.Channel.{Channel}
-use Rattle.channel.specs.Channel.{isMeta, shiftsAllowed}
+use Rattle.channel.specs.Channel.{shiftsAllowed}
 use Rattle.channel.proofs.Shifts.{shifts-small}
 use Rattle.list.specs.declared.Step.{Step}
 use Rattle.list.specs.Tables.{all}
-use Rattle.list.specs.Lists.{maxSteps, maxChannels, stepped}
+use Rattle.list.specs.Lists.{maxSteps, stepped}
 use Rattle.list.specs.Questions.{judgeStep}
 use Rattle.list.specs.Accepted.{Accepted}
 use Rattle.list.proofs.Acceptance.{allowed-both, step-accepted}
@@ -27,7 +26,7 @@ use Rattle.plan.proofs.Runs.{none-refused, plan-accepted}
 use Rattle.plan.proofs.Turns.{by-test}
 use Rattle.record.specs.Bytes.{joined}
 use Rattle.listing.specs.Text as New
-use Rattle.listing.specs.Text.{digit, digitsUpto, space, newline}
+use Rattle.listing.specs.Text.{digitsUpto}
 use Rattle.listing.specs.Listing as Listing
 use Rattle.before.specs.Listing as Before
 use Rattle.before.specs.Laws.{isShort}

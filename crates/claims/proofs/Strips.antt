@@ -3,7 +3,7 @@
 use mathlib.Core.Path.{_≡_, refl, sym, _∙_}
 use mathlib.Core.Bool.{Bool, true, false, _&&_, and-false, true≢false}
 use mathlib.Core.Logic.{_⊎_, inl, inr}
-use mathlib.Core.List.{List, [], _∷_}
+use mathlib.Core.List.{List}
 use Prim.Native.Nat.{ℕ, zero, suc, _<_, _≤_}
 use native.Mathlib.Omega.{arith}
 use lib.Dec.{leb}
@@ -57,7 +57,7 @@ use Rattle.before.proofs.AsBefore.{read-as-before, written-as-before}
 use Rattle.rect.specs.Rect as Rect
 use Rattle.rect.specs.Rect.{rectOf}
 use Rattle.claims.specs.Table.{record20by9}
-use Rattle.claims.specs.Strips.{OldRecords, Room, SidesWithin, Above, PrintedWhole, Limit, Rows, Strips, mixed}
+use Rattle.claims.specs.Strips.{SidesWithin, Above, PrintedWhole, Strips}
 
 -- ---- old records
 are-bytes : AreBytes record20by9

@@ -12,7 +12,6 @@ use Rattle.numbers.specs.Numbers.{maxSide, refusedField, refusedForm, refusedSa
 use Rattle.channel.specs.declared.Channel.{Channel}
 use Rattle.channel.specs.Channel.{metaShift}
 use Rattle.list.specs.declared.ChannelList.{ChannelList}
-use Rattle.list.specs.declared.Step.{Step}
 use Rattle.list.specs.Lists.{maxChannels, maxSteps, channels, packed}
 use Rattle.list.specs.Questions.{channelOf, countAllowed, judgeList}
 use Rattle.tile.specs.Call as Tile

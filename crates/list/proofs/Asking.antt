@@ -1,11 +1,16 @@
--- A question's answer, tested by code that returns at the first "no", and what no refusal says of it. Assumes nothing.
+-- A question's answer, tested by code that returns at the first "no", what no refusal says of it, and what every answer has. Assumes nothing.
 use mathlib.Core.Path.{_≡_, refl, sym, _∙_}
-use mathlib.Core.Bool.{Bool, true, false, not}
+use mathlib.Core.Bool.{Bool, true, false, cond, not}
 use Prim.Native.Nat.{ℕ, suc}
 use native.Mathlib.Omega.{arith}
 use lib.Dec.{eqb}
 use borrow.Author.Tests.{not-true, not-false, eqb-true, eqb-false}
 use Rattle.list.specs.Questions.{ask}
+
+-- what both have, a choice between them has
+pub cond-has {ℓ κ} : {A : Type ℓ} (P : A → Type κ) (t : Bool) (x y : A) → P x → P y → P (cond t x y)
+cond-has P true x y a b = a
+cond-has P false x y a b = b
 
 -- the code's r is the answer
 module _ {r answer : Bool} (e : r ≡ answer) where

@@ -3,7 +3,7 @@
 use mathlib.Core.Path.{_≡_, refl}
 use mathlib.Core.Bool.{Bool, true, false, cond, and-eq-true-iff}
 use mathlib.Core.List.{List, [], _∷_, _++_}
-use Prim.Native.Nat.{ℕ, zero, suc, _+_, _*_, _<_, _≤_}
+use Prim.Native.Nat.{ℕ, _+_, _*_, _≤_}
 use native.Mathlib.Nat.{mul-zero, mul-suc}
 use native.Mathlib.Omega.{arith}
 use lib.ListN.{length, length-append}
@@ -13,20 +13,17 @@ use Rattle.channel.proofs.Shifts.{plain-shifts}
 use Rattle.list.specs.declared.Step.{Step}
 use Rattle.list.specs.Tables.{all}
 use Rattle.list.specs.Lists.{maxChannels, maxSteps}
-use Rattle.list.specs.Accepted.{Accepted}
 use Rattle.list.proofs.Acceptance.{allowed-both}
 use Rattle.plan.specs.Default.{stoppingSide}
 use Rattle.plan.specs.Coarse.{coarseCount}
-use Rattle.plan.specs.Plans.{meant, steppedAll}
 use Rattle.plan.proofs.Runs.{plan-accepted}
 use Rattle.record.specs.Bytes.{joined}
-use Rattle.record.specs.Reading.{formOf}
 use Rattle.record.specs.Records.{readAnswer, channelsOf, stepsOf, reachedOf}
 use Rattle.record.proofs.Readings.{channels-accepted, steps-judged, steps-few}
 use Rattle.listing.specs.Text.{space, newline, stepsWord, channelsWord, coarseWord, stepLine, channelLine, directionWord, placeWord, shiftWords, two, metaWord, numbered, decimal}
 use Rattle.listing.specs.Listing as Listing
 use Rattle.listing.specs.Listing.{planText, listing}
-use Rattle.listing.specs.Putting.{numberRoom, stepRoom, channelRoom, directionRoom, placeRoom, twoRoom, shiftsRoom, listingRoom}
+use Rattle.listing.specs.Putting.{numberRoom, stepRoom, channelRoom, directionRoom, placeRoom, shiftsRoom, listingRoom}
 use Rattle.listing.proofs.Digits.{decimal-length, two-room, shifts-room}
 
 -- ---- one line

@@ -1,13 +1,13 @@
 -- The most steps of a default plan (specs/Longest.antt). A side that is halved a times, a above 0, is above 4 * 2 ^ a, and the sides' product is at
 -- most the samples of the list: half of them where there are chroma steps, since two channels have these sides. Assumes nothing.
-use mathlib.Core.Path.{_≡_, refl, sym, ap, _∙_}
+use mathlib.Core.Path.{_≡_, refl, sym}
 use mathlib.Core.Bool.{Bool, true, false, cond, _&&_, and-eq-true-iff}
 use mathlib.Core.Logic.{_⊎_, inl, inr, ⊎-elim}
 use mathlib.Core.List.{List, [], _∷_, _++_}
 use Prim.Native.Nat.{ℕ, zero, suc, _+_, _*_, _-_, _^_, _<_, _≤_}
 use native.Mathlib.Nat.{mul-le-mul}
 use native.Mathlib.Omega.{arith}
-use lib.Dec.{eqb, ltb, leb}
+use lib.Dec.{eqb, ltb}
 use lib.ListN.{length, length-append}
 use lib.Pow.{pow-add, pow-mono}
 use borrow.Author.Tests.{eqb-true, ltb-true, ltb-false, leb-true}

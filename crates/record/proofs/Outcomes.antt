@@ -14,6 +14,7 @@ use Rattle.list.specs.declared.ChannelList.{ChannelList}
 use Rattle.list.specs.declared.Step.{Step}
 use Rattle.list.specs.declared.Stepped.{Stepped}
 use Rattle.list.specs.Lists.{maxChannels, maxSteps, channels}
+use Rattle.list.proofs.Asking.{cond-has}
 use Rattle.list.proofs.Tables.{table-length}
 use Rattle.list.proofs.Channels.{channels-length}
 use Rattle.plan.specs.declared.Steps.{Steps}
@@ -21,7 +22,7 @@ use Rattle.plan.specs.Steps as S
 use Rattle.plan.specs.Plans.{judgePlan, rewritten}
 use Rattle.record.specs.declared.Record.{Record}
 use Rattle.record.specs.Bytes.{stripSize, stepSize, stepField, channelFields, stepFields, recordOf, placed}
-use Rattle.record.specs.Reading.{Form, refused, asked, isStep, finished, answerOf, readFields, formOf}
+use Rattle.record.specs.Reading.{Form, refused, isStep, finished, answerOf, readFields, formOf}
 use Rattle.record.specs.Records.{packedForm, readAnswer, readOf, recordFor, writeAnswer, writtenOf, writtenBytes}
 use Rattle.plan.proofs.Judged.{plan-answer, judged-counts}
 use Rattle.record.proofs.Joined.{step-size, joined-length, channels-most}
@@ -32,23 +33,16 @@ use Rattle.record.proofs.Placed.{placed-more}
 abbrev Bare : Form → Type 0
 Bare form = (form .answer ≡ 0 → ⊥) → form ≡ refused (form .answer)
 
-asked-bare : (b : Bool) (number : ℕ) (next : Form) → Bare next → Bare (asked b number next)
-asked-bare true number next h z = h z
-asked-bare false number next h z = refl
-
-cond-bare : (b : Bool) (x y : Form) → Bare x → Bare y → Bare (cond b x y)
-cond-bare true x y hx hy = hx
-cond-bare false x y hx hy = hy
-
 finished-bare : (cs : List Channel) (ss : List Step) → Bare (finished cs ss)
-finished-bare cs ss = asked-bare (leb 1 (length cs)) refusedCount _ (λ z. absurd (z refl))
+finished-bare cs ss = cond-has Bare (leb 1 (length cs)) _ (refused refusedCount) (λ z. absurd (z refl)) (λ z. refl)
 
 fields-bare : (turns : ℕ) (bytes : List ℕ) (cs : List Channel) (ss : List Step) → Bare (readFields turns bytes cs ss)
 fields-bare zero bytes cs ss = finished-bare cs ss
 fields-bare (suc turns) bytes cs ss =
-    cond-bare (eqb (length bytes) 0) _ _ (finished-bare cs ss)
-    (asked-bare (eqb (answerOf bytes cs ss) 0) (answerOf bytes cs ss) _
-    (cond-bare (isStep bytes) _ _ (fields-bare turns _ _ _) (fields-bare turns _ _ _)))
+    cond-has Bare (eqb (length bytes) 0) _ _ (finished-bare cs ss)
+    (cond-has Bare (eqb (answerOf bytes cs ss) 0) _ (refused (answerOf bytes cs ss))
+    (cond-has Bare (isStep bytes) _ _ (fields-bare turns _ _ _) (fields-bare turns _ _ _))
+    (λ z. refl))
 
 form-bare : (bytes : List ℕ) → Bare (formOf bytes)
 unfolding formOf

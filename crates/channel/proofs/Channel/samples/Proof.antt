@@ -1,6 +1,6 @@
 -- `samples` meets its contract: a product of two 32-bit sides fits 64 bits. Assumes nothing.
 use mathlib.Core.Path.{refl}
-use Prim.Native.Nat.{_*_, _≤_}
+use Prim.Native.Nat.{_≤_}
 use native.Mathlib.Omega.{arith}
 use native.Mathlib.Nat.{mul-le-mul-left}
 use borrow.Author.Needs.{needs}

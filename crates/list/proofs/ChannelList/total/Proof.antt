@@ -1,6 +1,6 @@
 -- `total` meets its contract: the sum so far and the samples of what is left are those of the list; where the next channel takes it past the limit,
 -- so do all together. Assumes nothing.
-use mathlib.Core.Path.{_≡_, ap, _∙_}
+use mathlib.Core.Path.{_≡_, _∙_}
 use Prim.Native.Nat.{_+_, _-_, _≤_}
 use native.Mathlib.Omega.{arith}
 use borrow.Author.Needs.{needs}
