@@ -2,8 +2,7 @@
 //! through the listing, the plan run and the writer.
 
 use squeeze::{GridQuery, Kind, Record, Refusal, Step};
-use squeeze_compare::random::Random;
-use squeeze_compare::runs::{every_function, Run};
+use squeeze_compare::runs::{self, Run};
 use squeeze_compare::tiles::Tile;
 use squeeze_compare::{must, rects, Tally};
 
@@ -35,14 +34,7 @@ fn then(record: Record, bytes: &[u8]) -> Vec<u8> {
 }
 
 fn check(cases: &[(Vec<u8>, u32, &str)]) -> Tally {
-    let mut random = Random::new(3);
-    let mut tally = Tally::default();
-    for (record, expected, why) in cases {
-        let answer = must(every_function(&mut random, record, 4096));
-        assert_eq!(answer, *expected, "{why}");
-        tally.add(answer);
-    }
-    tally
+    runs::rows(3, 4096, cases)
 }
 
 #[test]

@@ -6,7 +6,7 @@ use squeeze::{layout, listing, write_record, Channel, GridQuery, Kind, Record, S
 use squeeze_compare::parts::Parts;
 use squeeze_compare::random::Random;
 use squeeze_compare::records::strip_field;
-use squeeze_compare::runs::{every_function, Run};
+use squeeze_compare::runs::{self, every_function, Run};
 use squeeze_compare::tiles::Tile;
 use squeeze_compare::{lists, must, rects, Tally};
 use std::fs;
@@ -36,15 +36,12 @@ fn step(flags: u8, first: u8, number: u8) -> Vec<u8> {
     vec![2, 5, 0, flags, first, 0, number, 0]
 }
 
-/// Every function on each record; gives the answers met.
+/// Every function on the record of each row's fields; gives the answers met.
 fn check(rows: &[(Vec<Vec<u8>>, u32, &str)]) -> Tally {
-    let (mut random, mut tally) = (Random::new(121), Tally::default());
-    for (fields, expected, why) in rows {
-        let answer = must(every_function(&mut random, &fields.concat(), 1 << 20));
-        assert_eq!(answer, *expected, "{why}");
-        tally.add(answer);
-    }
-    tally
+    let joined = rows
+        .iter()
+        .map(|(fields, expected, why)| (fields.concat(), *expected, *why));
+    runs::rows(121, 1 << 20, &joined.collect::<Vec<_>>())
 }
 
 #[test]

@@ -2,7 +2,7 @@
 
 use crate::guard::Lent;
 use crate::random::Random;
-use crate::{expect, lists, number, Compared, Outcome};
+use crate::{expect, lists, must, number, Compared, Outcome, Tally};
 use squeeze_model::{list, record, refusal, run};
 
 /// One call of the plan run or of the writer.
@@ -133,4 +133,16 @@ pub fn every_function(random: &mut Random, record: &[u8], largest: usize) -> Res
         })?;
     }
     Ok(answer)
+}
+
+/// Every function on the record of each row, which must be answered as the row
+/// says, for the reason beside it; gives the answers met.
+pub fn rows(seed: u64, largest: usize, rows: &[(Vec<u8>, u32, &str)]) -> Tally {
+    let (mut random, mut tally) = (Random::new(seed), Tally::default());
+    for (record, expected, why) in rows {
+        let answer = must(every_function(&mut random, record, largest));
+        assert_eq!(answer, *expected, "{why}");
+        tally.add(answer);
+    }
+    tally
 }
