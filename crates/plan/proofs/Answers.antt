@@ -1,5 +1,5 @@
--- The steps that are meant or the refusal (`planned` and `meantSteps` of specs/Plans.antt) and the rewritten list or the refusal (`rewritten`), from
--- the answers that lead to them. Assumes nothing.
+-- The steps that are meant or the refusal (`meantSteps` of specs/Plans.antt) and the rewritten list or the refusal (`rewritten`), from the answers that
+-- lead to them. Assumes nothing.
 use mathlib.Core.Bool.{Bool, true, false, cond, _&&_, and-eq-true-iff}
 use mathlib.Core.Path.{_≡_, refl, sym, ap, _∙_}
 use mathlib.Core.List.{List, [], _∷_}
@@ -22,8 +22,9 @@ use Rattle.list.proofs.Acceptance.{count-inside, list-accepted, packed-accepted
 use Rattle.plan.specs.declared.Planned.{Planned}
 use Rattle.plan.specs.declared.Steps.{Steps}
 use Rattle.plan.specs.Steps as S
-use Rattle.plan.specs.Default.{stoppingSide, metaCount, defaultSteps}
-use Rattle.plan.specs.Plans.{judgeForm, hasOther, meant, meantAllowed, judgeMeant, judgePlan, judgeSteps, outcome, ran, rewritten, offer, judgeDefault, planned, judgeMeaning, meantSteps}
+use Rattle.plan.specs.Version.{isVersion, ruleOf}
+use Rattle.plan.specs.Default.{metaCount, defaultSteps}
+use Rattle.plan.specs.Plans.{judgeForm, hasOther, meant, meantAllowed, judgeMeant, judgePlan, judgeSteps, outcome, ran, rewritten, offer, judgeMeaning, meantSteps}
 use Rattle.plan.proofs.Packed.{packed-count, steps-packed}
 use Rattle.plan.proofs.Runs.{none-refused, plan-accepted}
 use Rattle.plan.proofs.Counts.{counted-all}
@@ -36,123 +37,115 @@ offer-answer a s = go (eqb a 0) refl
     go true e = sym (eqb-true a 0 e)
     go false e = refl
 
--- ---- the default plan: a is the answer to questions 3 to 5, m the count of meta channels, s the steps
-module _ (l : ChannelList) (a : ℕ) (ea : a ≡ judgeList l) where
-  pub planned-refused : (s : Steps) → (a ≡ 0 → ⊥) → s ≡ S.packed [] → record { answer = a; steps = s } ≡ planned l
-  unfolding planned judgeDefault
-  planned-refused s h es = rw (← ea, ne-eqb a 0 h, ne-eqb a 0 h, es)
-
-  module _ (ok : a ≡ 0) (m : ℕ) (s : Steps) (em : m ≡ metaCount (channels l)) where
-    long : length (channels l) ≡ l .count
-    long = counted-all l (count-inside l (sym ea ∙ ok) .1)
-
-    pub planned-none : l .count ≤ m → s ≡ S.packed [] → record { answer = 11; steps = s } ≡ planned l
-    unfolding planned judgeDefault hasOther
-    planned-none h es = rw (← ea, eq-eqb a 0 ok, long, ← em, le-ltb m (l .count) h, es)
-
-    pub planned-some : m < l .count → s ≡ S.packed (defaultSteps stoppingSide (channels l)) → record { answer = 0; steps = s } ≡ planned l
-    unfolding planned judgeDefault hasOther
-    planned-some h es = rw (← ea, eq-eqb a 0 ok, long, ← em, lt-ltb m (l .count) h, es)
-
 -- ---- no steps and some
 pub no-steps : (ss : List Step) → length ss ≡ 0 → ss ≡ []
 no-steps [] h = refl
 no-steps (x ∷ ss) h = absurd (omega arith)
 
-pub steps-meant : (ss : List Step) (cs : List Channel) → (length ss ≡ 0 → ⊥) → (meantAllowed ss cs ≡ true) × (meant ss cs ≡ ss)
+pub steps-meant : (version : ℕ) (ss : List Step) (cs : List Channel) → (length ss ≡ 0 → ⊥) → (meantAllowed ss cs ≡ true) × (meant version ss cs ≡ ss)
 unfolding meantAllowed meant
-steps-meant [] cs h = absurd (h refl)
-steps-meant (x ∷ ss) cs h = (refl, refl)
+steps-meant version [] cs h = absurd (h refl)
+steps-meant version (x ∷ ss) cs h = (refl, refl)
 
 pub steps-length : (s : Steps) → length (S.steps s) ≡ min (s .count) maxSteps
 unfolding S.steps
 steps-length s = table-length (S.stepAt s) 0 _
 
--- ---- a list and a plan
-module _ (l : ChannelList) (s : Steps) where
-  pub form-accepted : judgeForm l s ≡ 0 → (judgeList l ≡ 0) × (s .count ≤ maxSteps)
+-- ---- a list and a plan of a version
+module _ (version : ℕ) (l : ChannelList) (s : Steps) where
+  pub form-accepted : judgeForm version l s ≡ 0 → (judgeList l ≡ 0) × (s .count ≤ maxSteps) × (isVersion version ≡ true)
   unfolding judgeList judgeForm
   form-accepted ok =
       let p₃ = passed (countAllowed (l .count) && leb (s .count) maxSteps) _ _ ok in
-      let p₄ = passed (channelsAllowed (channels l) && all S.flagsAllowed (S.allFlags s)) _ _ (p₃ .1) in
+      let p₄ = passed (channelsAllowed (channels l) && (all S.flagsAllowed (S.allFlags s) && isVersion version)) _ _ (p₃ .1) in
       let b₃ = and-eq-true-iff (countAllowed (l .count)) (leb (s .count) maxSteps) .0 (p₃ .0) in
-      let b₄ = and-eq-true-iff (channelsAllowed (channels l)) (all S.flagsAllowed (S.allFlags s)) .0 (p₄ .0) in
-      (rw (b₃ .0, b₄ .0) (p₄ .1), leb-true (s .count) maxSteps (b₃ .1))
+      let b₄ = and-eq-true-iff (channelsAllowed (channels l)) (all S.flagsAllowed (S.allFlags s) && isVersion version) .0 (p₄ .0) in
+      let v = and-eq-true-iff (all S.flagsAllowed (S.allFlags s)) (isVersion version) .0 (b₄ .1) in
+      (rw (b₃ .0, b₄ .0) (p₄ .1), leb-true (s .count) maxSteps (b₃ .1), v .1)
 
   -- the steps that arrays hold, by their count
   none : s .count ≡ 0 → S.steps s ≡ []
   none z = no-steps (S.steps s) (omega (arith, steps-length s))
 
-  some : judgeForm l s ≡ 0 → (s .count ≡ 0 → ⊥) → (meantAllowed (S.steps s) (channels l) ≡ true) × (meant (S.steps s) (channels l) ≡ S.steps s)
-  some ok h = steps-meant (S.steps s) (channels l) (λ z. h (omega (arith, steps-length s, form-accepted ok .1)))
+  some : judgeForm version l s ≡ 0 → (s .count ≡ 0 → ⊥) → (meantAllowed (S.steps s) (channels l) ≡ true) × (meant version (S.steps s) (channels l) ≡ S.steps s)
+  some ok h = steps-meant version (S.steps s) (channels l) (λ z. h (omega (arith, steps-length s, form-accepted ok .1)))
 
   -- ---- the steps that are meant, from the answer a to questions 3 to 5
-  module _ (a : ℕ) (ea : a ≡ judgeForm l s) where
-    pub meant-refused : (e : Steps) → (a ≡ 0 → ⊥) → e ≡ S.packed [] → record { answer = a; steps = e } ≡ meantSteps l s
+  module _ (a : ℕ) (ea : a ≡ judgeForm version l s) where
+    pub meant-refused : (e : Steps) → (a ≡ 0 → ⊥) → e ≡ S.packed [] → record { answer = a; steps = e } ≡ meantSteps version l s
     unfolding meantSteps judgeMeaning
     meant-refused e h ee = rw (← ea, ne-eqb a 0 h, ne-eqb a 0 h, ee)
 
     module _ (ok : a ≡ 0) where
-      pub meant-given : (s .count ≡ 0 → ⊥) → record { answer = 0; steps = s } ≡ meantSteps l s
+      pub meant-given : (s .count ≡ 0 → ⊥) → record { answer = 0; steps = s } ≡ meantSteps version l s
       unfolding meantSteps judgeMeaning
       meant-given h = rw (← ea, eq-eqb a 0 ok, some (sym ea ∙ ok) h .0, ne-eqb (s .count) 0 h)
 
-      pub meant-default : (p : Planned) → s .count ≡ 0 → p ≡ planned l → p ≡ meantSteps l s
-      unfolding planned judgeDefault meantSteps judgeMeaning meantAllowed
-      meant-default p z ep = ep ∙ rw (form-accepted (sym ea ∙ ok) .0, ← ea, eq-eqb a 0 ok, none z, eq-eqb (s .count) 0 z)
+      -- no steps: m is the count of meta channels, d the default plan or no step
+      module _ (z : s .count ≡ 0) (m : ℕ) (d : Steps) (em : m ≡ metaCount (channels l)) where
+        long : length (channels l) ≡ l .count
+        long = counted-all l (count-inside l (form-accepted (sym ea ∙ ok) .0) .1)
+
+        pub meant-none : l .count ≤ m → d ≡ S.packed [] → record { answer = 11; steps = d } ≡ meantSteps version l s
+        unfolding meantSteps judgeMeaning meantAllowed hasOther
+        meant-none h ed = rw (← ea, eq-eqb a 0 ok, none z, long, ← em, le-ltb m (l .count) h, ed)
+
+        pub meant-default : m < l .count → d ≡ S.packed (defaultSteps (ruleOf version) (channels l)) → record { answer = 0; steps = d } ≡ meantSteps version l s
+        unfolding meantSteps judgeMeaning meantAllowed hasOther
+        meant-default h ed = rw (← ea, eq-eqb a 0 ok, none z, long, ← em, lt-ltb m (l .count) h, eq-eqb (s .count) 0 z, ed)
 
   -- ---- and the list that they leave
   -- questions 3 to 11 are 3 to 6, then 7 to 11 of the steps that are meant
-  pub plan-meaning : judgePlan l s ≡ ask (eqb (judgeMeaning l s) 0) (judgeMeaning l s) (judgeSteps (meant (S.steps s) (channels l)) (channels l))
+  pub plan-meaning : judgePlan version l s ≡ ask (eqb (judgeMeaning version l s) 0) (judgeMeaning version l s) (judgeSteps (meant version (S.steps s) (channels l)) (channels l))
   unfolding judgePlan judgeMeaning judgeMeant
-  plan-meaning = go (eqb (judgeForm l s) 0) (meantAllowed (S.steps s) (channels l)) refl
+  plan-meaning = go (eqb (judgeForm version l s) 0) (meantAllowed (S.steps s) (channels l)) refl
     where
       after : ℕ
-      after = judgeSteps (meant (S.steps s) (channels l)) (channels l)
+      after = judgeSteps (meant version (S.steps s) (channels l)) (channels l)
 
-      go : (f m : Bool) → eqb (judgeForm l s) 0 ≡ f
-          → ask f (judgeForm l s) (ask m refusedDefault after)
-          ≡ ask (eqb (ask f (judgeForm l s) (ask m refusedDefault 0)) 0) (ask f (judgeForm l s) (ask m refusedDefault 0)) after
+      go : (f m : Bool) → eqb (judgeForm version l s) 0 ≡ f
+          → ask f (judgeForm version l s) (ask m refusedDefault after)
+          ≡ ask (eqb (ask f (judgeForm version l s) (ask m refusedDefault 0)) 0) (ask f (judgeForm version l s) (ask m refusedDefault 0)) after
       go true true e = refl
       go true false e = refl
       go false m e = rw e
 
-  pub meaning-accepted : judgeMeaning l s ≡ 0 → (judgeForm l s ≡ 0) × (meantAllowed (S.steps s) (channels l) ≡ true)
+  pub meaning-accepted : judgeMeaning version l s ≡ 0 → (judgeForm version l s ≡ 0) × (meantAllowed (S.steps s) (channels l) ≡ true)
   unfolding judgeMeaning
   meaning-accepted ok =
-      let n = none-refused (judgeForm l s) _ ok in
+      let n = none-refused (judgeForm version l s) _ ok in
       (n .0, passed (meantAllowed (S.steps s) (channels l)) _ _ (n .1) .0)
 
   -- p is what `meant_steps` gave
-  module _ (p : Planned) (ep : p ≡ meantSteps l s) where
-    pub meaning-answer : p .answer ≡ judgeMeaning l s
+  module _ (p : Planned) (ep : p ≡ meantSteps version l s) where
+    pub meaning-answer : p .answer ≡ judgeMeaning version l s
     unfolding meantSteps
-    meaning-answer = ap (λ (x : Planned). x .answer) ep ∙ offer-answer (judgeMeaning l s) _
+    meaning-answer = ap (λ (x : Planned). x .answer) ep ∙ offer-answer (judgeMeaning version l s) _
 
-    pub meaning-steps : judgeMeaning l s ≡ 0 → p .steps .count ≤ maxSteps → S.steps (p .steps) ≡ meant (S.steps s) (channels l)
+    pub meaning-steps : judgeMeaning version l s ≡ 0 → p .steps .count ≤ maxSteps → S.steps (p .steps) ≡ meant version (S.steps s) (channels l)
     unfolding meantSteps meant
     meaning-steps ok room = by (s .count) refl
       where
-        given : p .steps ≡ cond (eqb (s .count) 0) (S.packed (defaultSteps stoppingSide (channels l))) s
+        given : p .steps ≡ cond (eqb (s .count) 0) (S.packed (defaultSteps (ruleOf version) (channels l))) s
         given = ap (λ (x : Planned). x .steps) ep ∙ rw ok
 
-        by : (n : ℕ) → s .count ≡ n → S.steps (p .steps) ≡ meant (S.steps s) (channels l)
+        by : (n : ℕ) → s .count ≡ n → S.steps (p .steps) ≡ meant version (S.steps s) (channels l)
         by zero z =
-            let packs : p .steps ≡ S.packed (defaultSteps stoppingSide (channels l)) = given ∙ rw z in
-            let n = packed-count (p .steps) (defaultSteps stoppingSide (channels l)) packs in
-            ap S.steps packs ∙ steps-packed (defaultSteps stoppingSide (channels l)) (omega arith) ∙ sym (rw (none z))
+            let packs : p .steps ≡ S.packed (defaultSteps (ruleOf version) (channels l)) = given ∙ rw z in
+            let n = packed-count (p .steps) (defaultSteps (ruleOf version) (channels l)) packs in
+            ap S.steps packs ∙ steps-packed (defaultSteps (ruleOf version) (channels l)) (omega arith) ∙ sym (rw (none z))
         by (suc n) z =
             let h : s .count ≡ 0 → ⊥ = λ e. absurd (omega arith) in
             ap S.steps (given ∙ rw (ne-eqb (s .count) 0 h)) ∙ sym (some (meaning-accepted ok .0) h .1)
 
-    pub rewritten-refused : (p .answer ≡ 0 → ⊥) → record { answer = p .answer; list = l } ≡ rewritten l s
+    pub rewritten-refused : (p .answer ≡ 0 → ⊥) → record { answer = p .answer; list = l } ≡ rewritten version l s
     unfolding rewritten outcome
     rewritten-refused h =
         let e = meaning-answer in
         let n = ne-eqb (p .answer) 0 h in
         rw (plan-meaning, ← e, n, n)
 
-    pub rewritten-run : (r : Stepped) → p .answer ≡ 0 → p .steps .count ≤ maxSteps → r ≡ ran (S.steps (p .steps)) l → r ≡ rewritten l s
+    pub rewritten-run : (r : Stepped) → p .answer ≡ 0 → p .steps .count ≤ maxSteps → r ≡ ran (S.steps (p .steps)) l → r ≡ rewritten version l s
     unfolding rewritten ran
     rewritten-run r h room er =
         let ok = sym meaning-answer ∙ h in
@@ -171,12 +164,12 @@ outcome-list : (a : ℕ) (l : ChannelList) (cs : List Channel) → a ≡ 0 → o
 unfolding outcome
 outcome-list a l cs e = rw (eq-eqb a 0 e)
 
-pub rewritten-accepted : (l : ChannelList) (s : Steps) → rewritten l s .answer ≡ 0 → judgeList (rewritten l s .list) ≡ 0
+pub rewritten-accepted : (version : ℕ) (l : ChannelList) (s : Steps) → rewritten version l s .answer ≡ 0 → judgeList (rewritten version l s .list) ≡ 0
 unfolding rewritten judgePlan judgeMeant
-rewritten-accepted l s h =
-    let none : judgePlan l s ≡ 0 = sym (outcome-answer (judgePlan l s) l _) ∙ h in
-    let p = none-refused (judgeForm l s) (judgeMeant (S.steps s) (channels l)) none in
+rewritten-accepted version l s h =
+    let none : judgePlan version l s ≡ 0 = sym (outcome-answer (judgePlan version l s) l _) ∙ h in
+    let p = none-refused (judgeForm version l s) (judgeMeant version (S.steps s) (channels l)) none in
     let m = passed (meantAllowed (S.steps s) (channels l)) _ _ (p .1) in
-    let ok = list-accepted l (form-accepted l s (p .0) .0) in
-    ap judgeList (outcome-list (judgePlan l s) l _ none)
-    ∙ packed-accepted _ (plan-accepted (meant (S.steps s) (channels l)) (channels l) ok (m .1))
+    let ok = list-accepted l (form-accepted version l s (p .0) .0) in
+    ap judgeList (outcome-list (judgePlan version l s) l _ none)
+    ∙ packed-accepted _ (plan-accepted (meant version (S.steps s) (channels l)) (channels l) ok (m .1))

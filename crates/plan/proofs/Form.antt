@@ -11,9 +11,10 @@ use Rattle.list.specs.Lists.{maxSteps, channels}
 use Rattle.list.specs.Questions.{ask, countAllowed, channelsAllowed, totalAllowed, judgeList}
 use Rattle.plan.specs.declared.Steps.{Steps}
 use Rattle.plan.specs.Steps as S
+use Rattle.plan.specs.Version.{isVersion}
 use Rattle.plan.specs.Plans.{judgeForm}
 
--- ---- the five answers: of the list (b₃, b₄, b₅) and of the steps (s₃, s₄)
+-- ---- the five answers: of the list (b₃, b₄, b₅) and of the steps and the version (s₃, s₄)
 abbrev ofList : Bool → Bool → Bool → ℕ
 ofList b₃ b₄ b₅ = ask b₃ 3 (ask b₄ 4 (ask b₅ 5 0))
 
@@ -46,12 +47,12 @@ passed₄ true b₅ true e = refl
 passed₄ true false false e = absurd (true≢false e)
 passed₄ true true false e = absurd (true≢false e)
 
--- ---- a is the list's own answer to questions 3 to 5, and t that of the flags to question 4
-module _ (l : ChannelList) (s : Steps) (a : ℕ) (ea : a ≡ judgeList l) where
-  pub form-numbers : (eqb a 3 || not (leb (s .count) maxSteps)) ≡ true → 3 ≡ judgeForm l s
+-- ---- a is the list's own answer to questions 3 to 5, t that of the flags to question 4 and v the version's
+module _ (version : ℕ) (l : ChannelList) (s : Steps) (a : ℕ) (ea : a ≡ judgeList l) where
+  pub form-numbers : (eqb a 3 || not (leb (s .count) maxSteps)) ≡ true → 3 ≡ judgeForm version l s
   unfolding judgeList judgeForm
   form-numbers e =
-      refused₃ (countAllowed (l .count)) (channelsAllowed (channels l)) (totalAllowed (channels l)) (leb (s .count) maxSteps) (all S.flagsAllowed (S.allFlags s))
+      refused₃ (countAllowed (l .count)) (channelsAllowed (channels l)) (totalAllowed (channels l)) (leb (s .count) maxSteps) (all S.flagsAllowed (S.allFlags s) && isVersion version)
       (rw ea at e)
 
   module _ (e₃ : (eqb a 3 || not (leb (s .count) maxSteps)) ≡ false) where
@@ -62,15 +63,15 @@ module _ (l : ChannelList) (s : Steps) (a : ℕ) (ea : a ≡ judgeList l) where
     pub form-count : s .count ≤ maxSteps
     form-count = leb-true (s .count) maxSteps (counts .1)
 
-    module _ (t : Bool) (et : t ≡ all S.flagsAllowed (S.allFlags s)) where
-      pub form-flags : (eqb a 4 || not t) ≡ true → 4 ≡ judgeForm l s
+    module _ (t v : Bool) (et : t ≡ all S.flagsAllowed (S.allFlags s)) (ev : v ≡ isVersion version) where
+      pub form-flags : (eqb a 4 || not (t && v)) ≡ true → 4 ≡ judgeForm version l s
       unfolding judgeList judgeForm
       form-flags e =
           rw (counts .0, counts .1)
-          (refused₄ (channelsAllowed (channels l)) (totalAllowed (channels l)) (all S.flagsAllowed (S.allFlags s)) (rw (ea, et, counts .0) at e))
+          (refused₄ (channelsAllowed (channels l)) (totalAllowed (channels l)) (all S.flagsAllowed (S.allFlags s) && isVersion version) (rw (ea, et, ev, counts .0) at e))
 
-      pub form-rest : (eqb a 4 || not t) ≡ false → a ≡ judgeForm l s
+      pub form-rest : (eqb a 4 || not (t && v)) ≡ false → a ≡ judgeForm version l s
       unfolding judgeList judgeForm
       form-rest e =
           rw (ea, counts .0, counts .1)
-          (passed₄ (channelsAllowed (channels l)) (totalAllowed (channels l)) (all S.flagsAllowed (S.allFlags s)) (rw (ea, et, counts .0) at e))
+          (passed₄ (channelsAllowed (channels l)) (totalAllowed (channels l)) (all S.flagsAllowed (S.allFlags s) && isVersion version) (rw (ea, et, ev, counts .0) at e))

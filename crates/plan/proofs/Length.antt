@@ -13,6 +13,7 @@ use Rattle.channel.specs.Channel.{sidesFit}
 use Rattle.channel.proofs.Sides.{fit-sides}
 use Rattle.list.specs.declared.Step.{Step}
 use Rattle.list.specs.Lists.{halved, maxSteps}
+use Rattle.plan.specs.declared.DefaultRule.{DefaultRule}
 use Rattle.plan.specs.Default.{firstOther, when, step, chroma, rounds, allChannels, defaultSteps}
 use Rattle.plan.proofs.Turns.{halvings, rounds-length}
 
@@ -20,9 +21,9 @@ pub when-length : (t : Bool) (s : Step) → length (when t s) ≤ 1
 when-length true s = omega arith
 when-length false s = omega arith
 
-pub chroma-length : (m n w h : ℕ) (second : Channel) → length (chroma m n w h second) ≤ 2
+pub chroma-length : (wanted : Bool) (m n w h : ℕ) (second : Channel) → length (chroma wanted m n w h second) ≤ 2
 unfolding chroma
-chroma-length m n w h second = go (ltb 2 n && (eqb (second .width) w && eqb (second .height) h))
+chroma-length wanted m n w h second = go (wanted && (ltb 2 n && (eqb (second .width) w && eqb (second .height) h)))
   where
     horizontal : Step
     horizontal = step true false (m + 1) 2
@@ -50,13 +51,13 @@ module _ (stop m n w h a b : ℕ) (p : w ≤ stop * 2 ^ a) (q : h ≤ stop * 2 ^
       go true false e = rounds-length stop m n (w + h) w h a b p q
       go false y e = rounds-length stop m n (w + h) w h a b p q
 
-pub default-length : (stop a b : ℕ) (cs : List Channel) → firstOther cs .width ≤ stop * 2 ^ a → firstOther cs .height ≤ stop * 2 ^ b
-    → length (defaultSteps stop cs) ≤ 2 + (a + b)
+pub default-length : (rule : DefaultRule) (a b : ℕ) (cs : List Channel) → firstOther cs .width ≤ rule .stop * 2 ^ a → firstOther cs .height ≤ rule .stop * 2 ^ b
+    → length (defaultSteps rule cs) ≤ 2 + (a + b)
 unfolding defaultSteps
-default-length stop a b cs p q = rw length-append (add-le-add (chroma-length _ _ _ _ _) (allChannels-length stop _ _ _ _ a b p q))
+default-length rule a b cs p q = rw length-append (add-le-add (chroma-length _ _ _ _ _ _) (allChannels-length (rule .stop) _ _ _ _ a b p q))
 
 -- at any stopping side, since a side is below 2 ^ 20
-pub default-fits : (stop : ℕ) (cs : List Channel) → 1 ≤ stop → sidesFit (firstOther cs) ≡ true → length (defaultSteps stop cs) ≤ maxSteps
-default-fits stop cs one fit =
+pub default-fits : (rule : DefaultRule) (cs : List Channel) → 1 ≤ rule .stop → sidesFit (firstOther cs) ≡ true → length (defaultSteps rule cs) ≤ maxSteps
+default-fits rule cs one fit =
     let f = fit-sides (firstOther cs) fit in
-    omega (arith, default-length stop 20 20 cs (omega arith) (omega arith))
+    omega (arith, default-length rule 20 20 cs (omega arith) (omega arith))

@@ -6,20 +6,22 @@ use mathlib.Core.List.{[], _++_}
 use Prim.Native.Nat.{ℕ, zero, suc, _+_, _*_, _^_, _<_, _≤_}
 use native.Mathlib.Nat.{pow-succ', mul-left-comm}
 use native.Mathlib.Omega.{arith}
-use lib.Dec.{ltb, lit≤}
+use lib.Dec.{eqb, ltb, lit≤}
 use lib.ListN.{length, length-append}
 use borrow.Author.Tests.{ltb-true, ltb-false, le-ltb}
 use Rattle.list.specs.declared.Step.{Step}
 use Rattle.list.specs.Lists.{halved}
-use Rattle.plan.specs.Default.{stoppingSide, when, step, lowered, rounds}
+use Rattle.plan.specs.Version.{houseVersion, ruleOf}
+use Rattle.plan.specs.Default.{when, step, lowered, rounds}
 
 pub by-test {ℓ} : {A : Type ℓ} (t : Bool) → (t ≡ true → A) → (t ≡ false → A) → A
 by-test true f g = f refl
 by-test false f g = g refl
 
--- document 01's stopping side is above 0, as the laws below want it
-pub stops : 1 ≤ stoppingSide
-stops = lit≤ tt
+-- each version's stopping side is above 0, as the laws below want it
+pub stops : (version : ℕ) → 1 ≤ ruleOf version .stop
+unfolding ruleOf
+stops version = by-test (eqb version houseVersion) (λ e. rw e (lit≤ tt)) (λ e. rw e (lit≤ tt))
 
 -- ---- a turn on one side
 -- the side gets no larger, and smaller if it is above the stopping side

@@ -1,14 +1,19 @@
--- The coarse count (document 01, "The list and the plan"; document 02, A.2), as a function of the side at which plans stop, and the laws of it that
--- clerks rely on. Definitions and statements only; proofs/Coarse.antt proves them.
+-- The coarse count (document 01, "The list and the plan"; document 02, A.2 and A.11), as a function of the side at which plans stop, and the laws of it
+-- that clerks rely on, over any such side. Definitions and statements only; proofs/Coarse.antt proves them.
 use mathlib.Core.Path.{_≡_}
-use mathlib.Core.Bool.{Bool, true, false, _&&_, _||_}
+use mathlib.Core.Bool.{Bool, true, false, cond, _&&_, _||_}
 use mathlib.Core.List.{List}
 use Prim.Native.Nat.{ℕ, _+_, _<_, _≤_}
 use lib.Dec.{leb}
 use lib.ListN.{length, drop}
 use Rattle.channel.specs.declared.Channel.{Channel}
 use Rattle.channel.specs.Channel.{isMeta}
+use Rattle.numbers.specs.Numbers.{refusedForm}
+use Rattle.list.specs.declared.ChannelList.{ChannelList}
+use Rattle.list.specs.Lists.{channels}
 use Rattle.list.specs.Questions.{noMeta, metaFirst, channelOf}
+use Rattle.plan.specs.declared.CoarseCount.{CoarseCount}
+use Rattle.plan.specs.Version.{isVersion, ruleOf}
 use Rattle.plan.specs.Default.{leading, metaCount}
 
 -- no side above the stopping side
@@ -22,6 +27,13 @@ isCoarse stop c = isMeta c || isSmall stop c
 -- "the number of leading channels of the rewritten list"; "the count still ends at the first other channel with a side above 8"
 unfoldable pub coarseCount : ℕ → List Channel → ℕ
 coarseCount stop cs = leading (isCoarse stop) cs
+
+-- A.11: "The coarse count takes the version's side"; "a version other than 1 or 2" is refused with 4, and nothing else is
+unfoldable pub coarseOf : ℕ → ChannelList → CoarseCount
+coarseOf version l =
+    cond (isVersion version)
+    (record { answer = 0; count = coarseCount (ruleOf version .stop) (channels l) })
+    (record { answer = refusedForm; count = 0 })
 
 -- ---- the laws
 -- every channel that is not meta has no side above the stopping side

@@ -1,5 +1,5 @@
--- The default plan (document 01, "The list and the plan"), as a function of the side at which it stops, which is 8.
--- Definitions only.
+-- The default plan (document 01, "The list and the plan"; document 02, A.11), as a function of the side at which it stops and of whether it has chroma
+-- steps first. Definitions only.
 use mathlib.Core.Bool.{Bool, true, false, cond, _&&_}
 use mathlib.Core.List.{List, [], _∷_, _++_}
 use Prim.Native.Nat.{ℕ, zero, suc, _+_, _-_}
@@ -10,10 +10,7 @@ use Rattle.channel.specs.Channel.{isMeta}
 use Rattle.list.specs.declared.Step.{Step}
 use Rattle.list.specs.Lists.{halved}
 use Rattle.list.specs.Questions.{channelOf}
-
--- the side above which the default plan goes on, and up to which a channel that is not meta is coarse
-abbrev pub stoppingSide : ℕ
-stoppingSide = 8
+use Rattle.plan.specs.declared.DefaultRule.{DefaultRule}
 
 -- how many channels stand before the first of which p is false
 abbrev pub leading : (Channel → Bool) → List Channel → ℕ
@@ -40,9 +37,10 @@ abbrev pub step : Bool → Bool → ℕ → ℕ → Step
 step horizontal inplace begin number = record { horizontal = horizontal; inplace = inplace; begin = begin; number = number }
 
 -- "If n > 2 and the second other is also w by h: steps on the second and third, not in place, horizontal if w > 1, then vertical if h > 1."
-unfoldable pub chroma : ℕ → ℕ → ℕ → ℕ → Channel → List Step
-chroma m n w h second =
-    cond (ltb 2 n && (eqb (second .width) w && eqb (second .height) h))
+-- A.11: or "no chroma steps first"
+unfoldable pub chroma : Bool → ℕ → ℕ → ℕ → ℕ → Channel → List Step
+chroma wanted m n w h second =
+    cond (wanted && (ltb 2 n && (eqb (second .width) w && eqb (second .height) h)))
     (when (ltb 1 w) (step true false (m + 1) 2) ++ when (ltb 1 h) (step false false (m + 1) 2))
     []
 
@@ -51,7 +49,7 @@ abbrev pub lowered : ℕ → ℕ → ℕ
 lowered stop side = cond (ltb stop side) (halved side) side
 
 -- "While a side is above 8: horizontal if w > 8, then vertical if h > 8, with w and h halved upwards each time." A turn lowers w + h, which
--- bounds the turns.
+-- bounds the turns. A.11: 8 or 32.
 unfoldable pub rounds : ℕ → ℕ → ℕ → ℕ → ℕ → ℕ → List Step
 rounds zero stop m n w h = []
 rounds (suc turns) stop m n w h =
@@ -66,7 +64,7 @@ allChannels stop m n w h =
     (step false true m n ∷ rounds (w + h) stop m n w (halved h))
     (rounds (w + h) stop m n w h)
 
-unfoldable pub defaultSteps : ℕ → List Channel → List Step
-defaultSteps stop cs =
-    chroma (metaCount cs) (otherCount cs) (firstOther cs .width) (firstOther cs .height) (secondOther cs)
-    ++ allChannels stop (metaCount cs) (otherCount cs) (firstOther cs .width) (firstOther cs .height)
+unfoldable pub defaultSteps : DefaultRule → List Channel → List Step
+defaultSteps rule cs =
+    chroma (rule .chroma) (metaCount cs) (otherCount cs) (firstOther cs .width) (firstOther cs .height) (secondOther cs)
+    ++ allChannels (rule .stop) (metaCount cs) (otherCount cs) (firstOther cs .width) (firstOther cs .height)

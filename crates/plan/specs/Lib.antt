@@ -1,4 +1,5 @@
 pub mod Steps
+pub mod Version
 pub mod Default
 pub mod Plans
 pub mod Adding

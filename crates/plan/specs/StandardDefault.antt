@@ -10,7 +10,7 @@ use Rattle.channel.specs.declared.Channel.{Channel}
 use Rattle.channel.specs.Channel.{isMeta}
 use Rattle.list.specs.declared.Step.{Step}
 use Rattle.list.specs.Questions.{channelOf}
-use Rattle.plan.specs.Default.{stoppingSide}
+use Rattle.plan.specs.Version.{standardSide}
 
 -- the channels that are not meta: meta channels stand first
 abbrev pub others : List Channel → List Channel
@@ -31,18 +31,18 @@ averaged side = (side + 1) / 2
 
 -- "while w > 8 or h > 8, a horizontal one if w > 8 and a vertical one if h > 8", on the n channels from `begin` on
 pub data While (begin n : ℕ) : ℕ → ℕ → List Step → Type 0 where
-  both : {w h : ℕ} {ss : List Step} (more : List Step) → stoppingSide < w → stoppingSide < h
+  both : {w h : ℕ} {ss : List Step} (more : List Step) → standardSide < w → standardSide < h
       → ss ≡ onChannels true true begin n ∷ onChannels false true begin n ∷ more → While begin n (averaged w) (averaged h) more → While begin n w h ss
-  wide : {w h : ℕ} {ss : List Step} (more : List Step) → stoppingSide < w → h ≤ stoppingSide
+  wide : {w h : ℕ} {ss : List Step} (more : List Step) → standardSide < w → h ≤ standardSide
       → ss ≡ onChannels true true begin n ∷ more → While begin n (averaged w) h more → While begin n w h ss
-  tall : {w h : ℕ} {ss : List Step} (more : List Step) → w ≤ stoppingSide → stoppingSide < h
+  tall : {w h : ℕ} {ss : List Step} (more : List Step) → w ≤ standardSide → standardSide < h
       → ss ≡ onChannels false true begin n ∷ more → While begin n w (averaged h) more → While begin n w h ss
-  over : {w h : ℕ} {ss : List Step} → w ≤ stoppingSide → h ≤ stoppingSide → ss ≡ [] → While begin n w h ss
+  over : {w h : ℕ} {ss : List Step} → w ≤ standardSide → h ≤ standardSide → ss ≡ [] → While begin n w h ss
 
 -- "then in-place steps on all n: a vertical one if h ≥ w and h > 8; then, while .."
 pub data InPlace (begin n w h : ℕ) (ss : List Step) : Type 0 where
-  vertical-first : (more : List Step) → w ≤ h → stoppingSide < h → ss ≡ onChannels false true begin n ∷ more → While begin n w (averaged h) more → InPlace begin n w h ss
-  loop-alone : (h < w) ⊎ (h ≤ stoppingSide) → While begin n w h ss → InPlace begin n w h ss
+  vertical-first : (more : List Step) → w ≤ h → standardSide < h → ss ≡ onChannels false true begin n ∷ more → While begin n w (averaged h) more → InPlace begin n w h ss
+  loop-alone : (h < w) ⊎ (h ≤ standardSide) → While begin n w h ss → InPlace begin n w h ss
 
 -- "with n > 2 and the second of them w by h too": w and h are those of the first
 pub record Chroma (cs : List Channel) : Type 0 where

@@ -1,6 +1,7 @@
 // Plans (document 01, "The list and the plan"; the Rust's `default_squeeze` and
-// `meta_apply_transforms`): the steps in flat arrays, the default plan, the run
-// of a plan over a list, and the coarse count. Total.
+// `meta_apply_transforms`): the steps in flat arrays, the default plan of either
+// version (document 02, A.11), the run of a plan over a list, and the coarse
+// count. Total.
 ghost use mathlib.Core.Path.{_≡_};
 ghost use mathlib.Core.Bool.{true};
 ghost use mathlib.Core.List.{[]};
@@ -12,8 +13,9 @@ ghost use Rattle.list.specs.Lists.{maxChannels, maxSteps, channels, packed};
 ghost use Rattle.list.specs.Questions.{judgeList};
 ghost use Rattle.plan.specs.Steps as Spec;
 ghost use Rattle.plan.specs.Adding.{pushed, appended};
+ghost use Rattle.plan.specs.Version as Version;
 ghost use Rattle.plan.specs.Default as Default;
-ghost use Rattle.plan.specs.Coarse.{isCoarse, coarseCount};
+ghost use Rattle.plan.specs.Coarse.{isCoarse, coarseOf};
 ghost use Rattle.plan.specs.Counted.{isCounted};
 ghost use Rattle.plan.specs.Plans as Plans;
 use channel::Channel;
@@ -40,6 +42,20 @@ pub struct Planned {
     pub steps: Steps,
 }
 
+// What a plan version says of its default plan: the side at which it stops, up
+// to which a channel that is not meta is coarse, and whether it has chroma steps
+// first.
+struct DefaultRule {
+    stop: u32,
+    chroma: bool,
+}
+
+// The answer 0 with a coarse count, or a refusal's number and 0.
+pub struct CoarseCount {
+    pub answer: u32,
+    pub count: usize,
+}
+
 // The channels that are counted from the front of a list.
 enum Counted {
     Meta,
@@ -54,9 +70,10 @@ pub fn flags_of(step: Step) -> u8
 }
 
 impl Steps {
-    // The side above which the default plan goes on, and up to which a channel
-    // that is not meta is coarse (the Rust's `MAX_FIRST_PREVIEW_SIZE`).
-    pub const STOPPING_SIDE: u32 = 8;
+    // The plan versions: the standard's, and the house plan for larger screens.
+    pub const STANDARD_VERSION: u32 = 1;
+
+    pub const HOUSE_VERSION: u32 = 2;
 
     // The flags of a step that is horizontal and in place.
     pub const ALL_FLAGS: u8 = 3;
@@ -117,21 +134,48 @@ impl Steps {
     }
 }
 
-fn lowered(side: u32) -> u32
-    ensures { λ r. ⌜ r ≡ Default.lowered Default.stoppingSide side ⌝ }
-{
-    if Steps::STOPPING_SIDE < side {
-        halved(side)
-    } else {
-        side
+impl DefaultRule {
+    // The sides at which the versions stop (the first is the Rust's
+    // `MAX_FIRST_PREVIEW_SIZE`).
+    const STANDARD_SIDE: u32 = 8;
+
+    const HOUSE_SIDE: u32 = 32;
+
+    fn of(version: u32) -> Self
+        ensures { λ r. ⌜ r ≡ Version.ruleOf version ⌝ }
+    {
+        if version == Steps::HOUSE_VERSION {
+            DefaultRule {
+                stop: DefaultRule::HOUSE_SIDE,
+                chroma: false,
+            }
+        } else {
+            DefaultRule {
+                stop: DefaultRule::STANDARD_SIDE,
+                chroma: true,
+            }
+        }
     }
 }
 
+// Question 4, of a plan version.
+pub fn is_version(version: u32) -> bool
+    ensures { λ r. ⌜ r ≡ Version.isVersion version ⌝ }
+{
+    (version == Steps::STANDARD_VERSION) | (version == Steps::HOUSE_VERSION)
+}
+
+fn lowered(stop: u32, side: u32) -> u32
+    ensures { λ r. ⌜ r ≡ Default.lowered stop side ⌝ }
+{
+    if stop < side { halved(side) } else { side }
+}
+
 // The turns of the default plan after `plan`: in-place steps on all `n`
-// channels from `m` on while a side of the first is above the stopping side.
-fn rounds(plan: Steps, m: u16, n: u16, w: u32, h: u32) -> Steps
-    requires { ⌜ plan .count + length (Default.rounds (w + h) Default.stoppingSide m n w h) ≤ maxSteps ⌝ }
-    ensures { λ r. ⌜ r ≡ appended plan (Default.rounds (w + h) Default.stoppingSide m n w h) ⌝ }
+// channels from `m` on while a side of the first is above `stop`.
+fn rounds(plan: Steps, stop: u32, m: u16, n: u16, w: u32, h: u32) -> Steps
+    requires { ⌜ (1 ≤ stop) × (plan .count + length (Default.rounds (w + h) stop m n w h) ≤ maxSteps) ⌝ }
+    ensures { λ r. ⌜ r ≡ appended plan (Default.rounds (w + h) stop m n w h) ⌝ }
 {
     let horizontal = Step {
         horizontal: true,
@@ -148,39 +192,40 @@ fn rounds(plan: Steps, m: u16, n: u16, w: u32, h: u32) -> Steps
     let mut steps = plan;
     let mut width = w;
     let mut height = h;
-    while (Steps::STOPPING_SIDE < width) | (Steps::STOPPING_SIDE < height) {
+    while (stop < width) | (stop < height) {
         steps = steps
-            .push_if(Steps::STOPPING_SIDE < width, horizontal)
-            .push_if(Steps::STOPPING_SIDE < height, vertical);
-        width = lowered(width);
-        height = lowered(height);
+            .push_if(stop < width, horizontal)
+            .push_if(stop < height, vertical);
+        width = lowered(stop, width);
+        height = lowered(stop, height);
     }
     steps
 }
 
 // The in-place steps of the default plan after `plan`: vertical first on tall
 // pictures, then the turns.
-fn all_channels(plan: Steps, m: u16, n: u16, w: u32, h: u32) -> Steps
-    requires { ⌜ plan .count + length (Default.allChannels Default.stoppingSide m n w h) ≤ maxSteps ⌝ }
-    ensures { λ r. ⌜ r ≡ appended plan (Default.allChannels Default.stoppingSide m n w h) ⌝ }
+fn all_channels(plan: Steps, stop: u32, m: u16, n: u16, w: u32, h: u32) -> Steps
+    requires { ⌜ (1 ≤ stop) × (plan .count + length (Default.allChannels stop m n w h) ≤ maxSteps) ⌝ }
+    ensures { λ r. ⌜ r ≡ appended plan (Default.allChannels stop m n w h) ⌝ }
 {
-    if (w <= h) & (Steps::STOPPING_SIDE < h) {
+    if (w <= h) & (stop < h) {
         let vertical = Step {
             horizontal: false,
             inplace: true,
             begin: m,
             number: n,
         };
-        return rounds(plan.push(vertical), m, n, w, halved(h));
+        return rounds(plan.push(vertical), stop, m, n, w, halved(h));
     }
-    rounds(plan, m, n, w, h)
+    rounds(plan, stop, m, n, w, h)
 }
 
-// The chroma steps of the default plan after `plan`: on the second and third of
-// `n` channels from `m` on, where the second is `w` by `h` as the first is.
-fn chroma(plan: Steps, m: u16, n: u16, w: u32, h: u32, second: Channel) -> Steps
+// The chroma steps of a default plan that has such steps, after `plan`: on the
+// second and third of `n` channels from `m` on, where the second is `w` by `h` as
+// the first is.
+fn chroma(plan: Steps, wanted: bool, m: u16, n: u16, w: u32, h: u32, second: Channel) -> Steps
     requires { ⌜ (plan .count + 2 ≤ maxSteps) × (m < maxChannels) ⌝ }
-    ensures { λ r. ⌜ r ≡ appended plan (Default.chroma m n w h second) ⌝ }
+    ensures { λ r. ⌜ r ≡ appended plan (Default.chroma wanted m n w h second) ⌝ }
 {
     let begin = m + 1;
     let horizontal = Step {
@@ -195,7 +240,7 @@ fn chroma(plan: Steps, m: u16, n: u16, w: u32, h: u32, second: Channel) -> Steps
         begin,
         number: 2,
     };
-    let alike = (2 < n) & (second.width == w) & (second.height == h);
+    let alike = wanted & (2 < n) & (second.width == w) & (second.height == h);
     plan.push_if(alike & (1 < w), horizontal)
         .push_if(alike & (1 < h), vertical)
 }
@@ -208,23 +253,23 @@ fn is_coarse(channel: Channel, stop: u32) -> bool
     channel.is_meta() | ((channel.width <= stop) & (channel.height <= stop))
 }
 
-fn is_counted(channel: Channel, which: Counted) -> bool
-    ensures { λ r. ⌜ r ≡ isCounted which channel ⌝ }
+fn is_counted(channel: Channel, which: Counted, stop: u32) -> bool
+    ensures { λ r. ⌜ r ≡ isCounted which stop channel ⌝ }
 {
     match which {
         Counted::Meta => channel.is_meta(),
-        Counted::Coarse => is_coarse(channel, Steps::STOPPING_SIDE),
+        Counted::Coarse => is_coarse(channel, stop),
     }
 }
 
 // How many channels stand before the first that is not counted.
-fn leading(list: ChannelList, which: Counted) -> usize
-    ensures { λ r. ⌜ r ≡ Default.leading (isCounted which) (channels list) ⌝ }
+fn leading(list: ChannelList, which: Counted, stop: u32) -> usize
+    ensures { λ r. ⌜ r ≡ Default.leading (isCounted which stop) (channels list) ⌝ }
 {
     let count = list.count;
     for k in 0..ChannelList::MAX_CHANNELS {
         let c = entry_of(&list.widths, &list.heights, &list.hshifts, &list.vshifts, k);
-        if (count <= k) | !is_counted(c, which) {
+        if (count <= k) | !is_counted(c, which, stop) {
             return k;
         }
     }
@@ -235,21 +280,31 @@ fn leading(list: ChannelList, which: Counted) -> usize
 fn meta_count(list: ChannelList) -> usize
     ensures { λ r. ⌜ r ≡ Default.metaCount (channels list) ⌝ }
 {
-    leading(list, Counted::Meta)
+    leading(list, Counted::Meta, 0)
 }
 
-// The coarse count of a rewritten list.
-pub fn coarse_count(list: ChannelList) -> usize
-    ensures { λ r. ⌜ r ≡ coarseCount Default.stoppingSide (channels list) ⌝ }
+// The coarse count of a rewritten list under a plan version, which is all that
+// is judged.
+pub fn coarse_count(version: u32, list: ChannelList) -> CoarseCount
+    ensures { λ r. ⌜ r ≡ coarseOf version list ⌝ }
 {
-    leading(list, Counted::Coarse)
+    if !is_version(version) {
+        return CoarseCount {
+            answer: REFUSED_FORM,
+            count: 0,
+        };
+    }
+    CoarseCount {
+        answer: 0,
+        count: leading(list, Counted::Coarse, DefaultRule::of(version).stop),
+    }
 }
 
 // The default plan of a list with a channel that is not meta and no side above
 // the limit.
-fn default_steps(list: ChannelList) -> Steps
-    requires { ⌜ (list .count ≤ maxChannels) × (Default.metaCount (channels list) < list .count) × (all sidesFit (channels list) ≡ true) ⌝ }
-    ensures { λ r. ⌜ r ≡ Spec.packed (Default.defaultSteps Default.stoppingSide (channels list)) ⌝ }
+fn default_steps(rule: DefaultRule, list: ChannelList) -> Steps
+    requires { ⌜ (1 ≤ rule .stop) × (list .count ≤ maxChannels) × (Default.metaCount (channels list) < list .count) × (all sidesFit (channels list) ≡ true) ⌝ }
+    ensures { λ r. ⌜ r ≡ Spec.packed (Default.defaultSteps rule (channels list)) ⌝ }
     ensures room { λ r. ⌜ r .count ≤ maxSteps ⌝ }
 {
     let k = meta_count(list);
@@ -260,32 +315,8 @@ fn default_steps(list: ChannelList) -> Steps
     let n = (list.count - k) as u16;
     let w = first.width;
     let h = first.height;
-    let steps = chroma(Steps::empty(), m, n, w, h, second);
-    all_channels(steps, m, n, w, h)
-}
-
-// The default plan of a list, by questions 3 to 6.
-pub fn default_squeeze(list: ChannelList) -> Planned
-    ensures { λ r. ⌜ r ≡ Plans.planned list ⌝ }
-    ensures room { λ r. ⌜ r .steps .count ≤ maxSteps ⌝ }
-{
-    let answer = list.judge();
-    if answer != 0 {
-        return Planned {
-            answer,
-            steps: Steps::empty(),
-        };
-    }
-    if list.count <= meta_count(list) {
-        return Planned {
-            answer: REFUSED_DEFAULT,
-            steps: Steps::empty(),
-        };
-    }
-    Planned {
-        answer: 0,
-        steps: default_steps(list),
-    }
+    let steps = chroma(Steps::empty(), rule.chroma, m, n, w, h, second);
+    all_channels(steps, rule.stop, m, n, w, h)
 }
 
 // Question 4, of the steps' flags.
@@ -302,27 +333,27 @@ fn flags_allowed(steps: Steps) -> bool
     true
 }
 
-// Questions 3 to 5, of a list and a plan.
-fn judge_form(list: ChannelList, steps: Steps) -> u32
-    ensures { λ r. ⌜ r ≡ Plans.judgeForm list steps ⌝ }
+// Questions 3 to 5, of a version, a list and a plan.
+fn judge_form(version: u32, list: ChannelList, steps: Steps) -> u32
+    ensures { λ r. ⌜ r ≡ Plans.judgeForm version list steps ⌝ }
 {
     let answer = list.judge();
     if (answer == REFUSED_COUNT) | !(steps.count <= ChannelList::MAX_STEPS) {
         return REFUSED_COUNT;
     }
-    if (answer == REFUSED_FORM) | !flags_allowed(steps) {
+    if (answer == REFUSED_FORM) | !(flags_allowed(steps) & is_version(version)) {
         return REFUSED_FORM;
     }
     answer
 }
 
 // The steps that a list and a plan mean by questions 3 to 6: "An empty list of
-// steps means the default plan."
-pub fn meant_steps(list: ChannelList, steps: Steps) -> Planned
-    ensures { λ r. ⌜ r ≡ Plans.meantSteps list steps ⌝ }
+// steps means the default plan", the version's.
+pub fn meant_steps(version: u32, list: ChannelList, steps: Steps) -> Planned
+    ensures { λ r. ⌜ r ≡ Plans.meantSteps version list steps ⌝ }
     ensures room { λ r. ⌜ r .steps .count ≤ maxSteps ⌝ }
 {
-    let answer = judge_form(list, steps);
+    let answer = judge_form(version, list, steps);
     if answer != 0 {
         return Planned {
             answer,
@@ -332,7 +363,24 @@ pub fn meant_steps(list: ChannelList, steps: Steps) -> Planned
     if steps.count != 0 {
         return Planned { answer: 0, steps };
     }
-    default_squeeze(list)
+    if list.count <= meta_count(list) {
+        return Planned {
+            answer: REFUSED_DEFAULT,
+            steps: Steps::empty(),
+        };
+    }
+    Planned {
+        answer: 0,
+        steps: default_steps(DefaultRule::of(version), list),
+    }
+}
+
+// The default plan of a list, by questions 3 to 6.
+pub fn default_squeeze(version: u32, list: ChannelList) -> Planned
+    ensures { λ r. ⌜ r ≡ Plans.planned version list ⌝ }
+    ensures room { λ r. ⌜ r .steps .count ≤ maxSteps ⌝ }
+{
+    meant_steps(version, list, Steps::empty())
 }
 
 // The list with its unused entries 0.
@@ -382,10 +430,10 @@ fn run(list: ChannelList, steps: Steps) -> Stepped
 
 // Questions 3 to 11 of a plan on a list, and the list that the plan leaves; no
 // steps mean the default plan.
-pub fn rewrite(list: ChannelList, steps: Steps) -> Stepped
-    ensures { λ r. ⌜ r ≡ Plans.rewritten list steps ⌝ }
+pub fn rewrite(version: u32, list: ChannelList, steps: Steps) -> Stepped
+    ensures { λ r. ⌜ r ≡ Plans.rewritten version list steps ⌝ }
 {
-    let meant = meant_steps(list, steps);
+    let meant = meant_steps(version, list, steps);
     let answer = meant.answer;
     if answer != 0 {
         return Stepped { answer, list };

@@ -16,6 +16,7 @@ pub mod rect;
 pub mod run;
 pub mod squeeze;
 pub mod tile;
+pub mod version;
 
 /// The most samples of a list, or of a rectangle of a tile call.
 pub const MAX_SAMPLES: u64 = 16_777_216;
@@ -29,20 +30,18 @@ pub const MAX_SHIFT: u8 = 30;
 pub const MAX_SIDE: u32 = 1_048_575;
 /// The longest side of a channel under tag 1.
 pub const MAX_SHORT_SIDE: u32 = 65_535;
-/// The side up to which a channel that is not meta is coarse, and at which the
-/// default plan stops.
-pub const COARSE_SIDE: u32 = 8;
 
 /// The refusals' numbers.
 pub mod refusal {
     /// Question 1: a head or a stated length outside the bytes.
     pub const CUT_FIELD: u32 = 1;
-    /// Question 2: tag, length, or a channel after a step.
+    /// Question 2: tag, length, a channel after a step, or tag 4 after another field
+    /// (document 02, A.11).
     pub const BAD_FIELD: u32 = 2;
     /// Question 3: how many channels and steps.
     pub const COUNT: u32 = 3;
     /// Question 4: shifts, meta channels first, flag bits; sides, and tag 3 for a
-    /// channel that fits tag 1 (document 02, A.8).
+    /// channel that fits tag 1 (document 02, A.8); the version (A.11).
     pub const FORM: u32 = 4;
     /// Question 5: the sample total.
     pub const SAMPLES: u32 = 5;

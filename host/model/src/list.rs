@@ -1,6 +1,6 @@
 //! Channel lists, and what a step makes of one.
 
-use crate::{refusal, COARSE_SIDE, MAX_CHANNELS, MAX_SAMPLES, MAX_SHIFT, MAX_SIDE};
+use crate::{refusal, MAX_CHANNELS, MAX_SAMPLES, MAX_SHIFT, MAX_SIDE};
 
 /// A channel: its sides, and its shifts unless it is meta.
 #[derive(Clone, Copy, Debug, PartialEq, Eq)]
@@ -161,9 +161,7 @@ pub fn take_step(list: &[Channel], step: &Step) -> Result<Vec<Channel>, u32> {
 }
 
 /// The number of leading channels up to the first that is not meta and has a
-/// side above 8 (document 02, A.2).
-pub fn coarse_count(list: &[Channel]) -> usize {
-    list.iter()
-        .take_while(|c| c.is_meta_or_small(COARSE_SIDE))
-        .count()
+/// side above `side` (document 02, A.2), which is the version's (A.11).
+pub fn coarse_count(list: &[Channel], side: u32) -> usize {
+    list.iter().take_while(|c| c.is_meta_or_small(side)).count()
 }

@@ -1,6 +1,6 @@
 //! The listing of a record as text.
 
-use crate::list::{coarse_count, Channel, Step};
+use crate::list::{Channel, Step};
 use crate::{record, refusal};
 use std::fmt::Write;
 
@@ -12,7 +12,7 @@ pub fn listing(bytes: &[u8]) -> Result<String, u32> {
     plan.steps.iter().for_each(|s| step_line(s, &mut text));
     writeln!(text, "channels {}", layout.len()).expect("text");
     layout.iter().for_each(|c| channel_line(c, &mut text));
-    writeln!(text, "coarse {}", coarse_count(layout)).expect("text");
+    writeln!(text, "coarse {}", plan.coarse()).expect("text");
     Ok(text)
 }
 

@@ -1,10 +1,11 @@
 //! Plans: the default one, and the lists that a plan goes through.
 
-use crate::list::{check_total, take_step, Channel, Step};
-use crate::{refusal, COARSE_SIDE};
+use crate::list::{check_total, coarse_count, take_step, Channel, Step};
+use crate::refusal;
+use crate::version::Version;
 
 /// The default plan, or refusal 11.
-pub fn default_plan(list: &[Channel]) -> Result<Vec<Step>, u32> {
+pub fn default_plan(version: Version, list: &[Channel]) -> Result<Vec<Step>, u32> {
     let meta = list.iter().filter(|c| c.meta()).count();
     let others: Vec<&Channel> = list.iter().filter(|c| !c.meta()).collect();
     let Some(leader) = others.first() else {
@@ -12,10 +13,11 @@ pub fn default_plan(list: &[Channel]) -> Result<Vec<Step>, u32> {
     };
     let (w, h) = (leader.width, leader.height);
     let mut steps = Vec::new();
-    if others.len() > 2 && (others[1].width, others[1].height) == (w, h) {
+    let alike = others.len() > 2 && (others[1].width, others[1].height) == (w, h);
+    if version.chroma() && alike {
         chroma_steps(meta, w, h, &mut steps);
     }
-    all_steps(meta, others.len(), w, h, &mut steps);
+    all_steps(meta, others.len(), (w, h), version.side(), &mut steps);
     Ok(steps)
 }
 
@@ -35,24 +37,26 @@ fn chroma_steps(meta: usize, w: u32, h: u32, steps: &mut Vec<Step>) {
     }
 }
 
-/// The in-place steps on all `n` channels that are not meta.
-fn all_steps(meta: usize, n: usize, mut w: u32, mut h: u32, steps: &mut Vec<Step>) {
+/// The in-place steps on all `n` channels that are not meta, while a side is above
+/// `stop`.
+fn all_steps(meta: usize, n: usize, size: (u32, u32), stop: u32, steps: &mut Vec<Step>) {
+    let (mut w, mut h) = size;
     let step = |horizontal| Step {
         horizontal,
         in_place: true,
         first: meta as u32,
         number: n as u32,
     };
-    if w <= h && h > COARSE_SIDE {
+    if w <= h && h > stop {
         steps.push(step(false));
         h = h.div_ceil(2);
     }
-    while w > COARSE_SIDE || h > COARSE_SIDE {
-        if w > COARSE_SIDE {
+    while w > stop || h > stop {
+        if w > stop {
             steps.push(step(true));
             w = w.div_ceil(2);
         }
-        if h > COARSE_SIDE {
+        if h > stop {
             steps.push(step(false));
             h = h.div_ceil(2);
         }
@@ -62,6 +66,8 @@ fn all_steps(meta: usize, n: usize, mut w: u32, mut h: u32, steps: &mut Vec<Step
 /// An accepted plan: its steps, and the lists before, between and after them.
 #[derive(Clone, Debug, PartialEq, Eq)]
 pub struct Plan {
+    /// The version.
+    pub version: Version,
     /// The steps; the default plan's if none were given.
     pub steps: Vec<Step>,
     /// One list more than steps.
@@ -73,13 +79,18 @@ impl Plan {
     pub fn layout(&self) -> &[Channel] {
         &self.lists[self.steps.len()]
     }
+
+    /// How many of its channels are coarse.
+    pub fn coarse(&self) -> usize {
+        coarse_count(self.layout(), self.version.side())
+    }
 }
 
 /// Questions 5 to 11 for a list of good form and the steps given.
-pub fn judge(list: Vec<Channel>, given: Vec<Step>) -> Result<Plan, u32> {
+pub fn judge(version: Version, list: Vec<Channel>, given: Vec<Step>) -> Result<Plan, u32> {
     check_total(&list)?;
     let steps = if given.is_empty() {
-        default_plan(&list)?
+        default_plan(version, &list)?
     } else {
         given
     };
@@ -88,5 +99,9 @@ pub fn judge(list: Vec<Channel>, given: Vec<Step>) -> Result<Plan, u32> {
         let next = take_step(&lists[k], step)?;
         lists.push(next);
     }
-    Ok(Plan { steps, lists })
+    Ok(Plan {
+        version,
+        steps,
+        lists,
+    })
 }

@@ -1,11 +1,15 @@
-//! Records: questions 1 to 4, field by field.
+//! Records: questions 1 to 4, field by field. A version stands first, or nowhere
+//! (document 02, A.11).
 
 use crate::list::{Channel, Step};
+use crate::version::Version;
 use crate::{plan, refusal, MAX_CHANNELS, MAX_SHORT_SIDE, MAX_STEPS};
 
-/// Channels and steps of a record, as they stand there.
+/// Version, channels and steps of a record, as they stand there.
 #[derive(Clone, Debug, Default, PartialEq, Eq)]
 pub struct Record {
+    /// The version; 1 where the record doesn't say it.
+    pub version: Version,
     /// The channels.
     pub channels: Vec<Channel>,
     /// The steps; none means the default plan.
@@ -18,7 +22,9 @@ pub fn read(bytes: &[u8]) -> Result<Record, u32> {
     let mut rest = bytes;
     while !rest.is_empty() {
         let (tag, body, after) = field(rest)?;
+        let first = rest.len() == bytes.len();
         match (tag, body.len()) {
+            (4, 1) if first => record.version = Version::of_field(body[0])?,
             (1, 6) if record.steps.is_empty() => add_channel(&mut record, short(body), false)?,
             (3, 10) if record.steps.is_empty() => add_channel(&mut record, long(body), true)?,
             (2, 5) => add_step(&mut record, body)?,
@@ -35,7 +41,7 @@ pub fn read(bytes: &[u8]) -> Result<Record, u32> {
 /// Form first, then the plan.
 pub fn judge(bytes: &[u8]) -> Result<plan::Plan, u32> {
     let record = read(bytes)?;
-    plan::judge(record.channels, record.steps)
+    plan::judge(record.version, record.channels, record.steps)
 }
 
 /// Question 1: tag, body and the bytes after the field.

@@ -5,8 +5,6 @@ use mathlib.Core.Path.{ap, _∙_}
 use native.Mathlib.Omega.{arith}
 use borrow.Author.Needs.{needs}
 use Rattle.plan.specs.Steps.{packed}
-use Rattle.plan.specs.Default.{stoppingSide}
-use Rattle.plan.proofs.Turns.{stops}
 use Rattle.plan.proofs.Parts.{Parted, parted}
 use Rattle.plan.proofs.Packed.{packed-count, packed-room, packed-both}
 use Rattle.plan.proofs.default_steps.Statement.{statement}
@@ -23,12 +21,12 @@ metas c = c .before .before .before .before .before .before
 parts : (c : tie.After-entry-of2)
     → let f = first c in
     let m = metas f in
-    Parted stoppingSide (m .before .args .t1) (m .meta-count .result) (f .entry-of .result) (c .entry-of2 .result)
+    Parted (m .before .args .rule) (m .before .args .t2) (m .meta-count .result) (f .entry-of .result) (c .entry-of2 .result)
 parts c =
     let f = first c .entry-of in
     let m = metas (first c) in
-    parted (m .before .args .t1) (m .before .pre .0) (m .before .pre .2) (m .meta-count .result) (f .result) (c .entry-of2 .result) (m .meta-count .ensures) (search needs) (f .ensures)
-    (c .entry-of2 .ensures) stoppingSide stops
+    parted (m .before .args .t2) (m .before .pre .1) (m .before .pre .3) (m .meta-count .result) (f .result) (c .entry-of2 .result) (m .meta-count .ensures) (search needs) (f .ensures)
+    (c .entry-of2 .ensures) (m .before .args .rule) (m .before .pre .0)
 
 meta-count-requires : tie.Need-meta-count-requires
 meta-count-requires c κs = search needs
@@ -58,7 +56,7 @@ chroma-requires : tie.Need-chroma-requires
 chroma-requires c κs = omega (arith, packed-count _ [] (c .empty .ensures))
 
 all-channels-requires : tie.Need-all-channels-requires
-all-channels-requires c κs = packed-room _ _ (parts (c .before .before) .room) _ _ (c .before .empty .ensures) (c .chroma .ensures)
+all-channels-requires c κs = (metas (first (c .before .before)) .before .pre .0, packed-room _ _ (parts (c .before .before) .room) _ _ (c .before .empty .ensures) (c .chroma .ensures))
 
 returns : tie.Need-returns
 returns c =

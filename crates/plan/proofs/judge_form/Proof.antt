@@ -8,21 +8,26 @@ judge-requires : tie.Need-judge-requires
 judge-requires c κs = search needs
 
 returns : tie.Need-returns
-returns c = form-numbers _ _ _ (c .before .before .judge .ensures) (c .if1 .taken)
+returns c = form-numbers _ _ _ _ (c .before .before .judge .ensures) (c .if1 .taken)
 
 flags-allowed-requires : tie.Need-flags-allowed-requires
-flags-allowed-requires c κs = form-count _ (c .before .before .before .args .steps) _ (c .before .before .judge .ensures) (c .if1 .left)
+flags-allowed-requires c κs = form-count (c .before .before .before .args .version) _ (c .before .before .before .args .steps) _ (c .before .before .judge .ensures) (c .if1 .left)
+
+is-version-requires : tie.Need-is-version-requires
+is-version-requires c κs = search needs
 
 returns-2 : tie.Need-returns-2
 returns-2 c =
-    let q = c .before .before in
-    form-flags _ _ _ (q .before .before .judge .ensures) (q .if1 .left) _ (c .before .flags-allowed .ensures) (c .if2 .taken)
+    let f = c .before .before in
+    let q = f .before in
+    form-flags _ _ _ _ (q .before .before .judge .ensures) (q .if1 .left) _ _ (f .flags-allowed .ensures) (c .before .is-version .ensures) (c .if2 .taken)
 
 returns-3 : tie.Need-returns-3
 returns-3 c =
-    let q = c .before .before in
-    form-rest _ _ _ (q .before .before .judge .ensures) (q .if1 .left) _ (c .before .flags-allowed .ensures) (c .if2 .left)
+    let f = c .before .before in
+    let q = f .before in
+    form-rest _ _ _ _ (q .before .before .judge .ensures) (q .if1 .left) _ _ (f .flags-allowed .ensures) (c .before .is-version .ensures) (c .if2 .left)
 
 pub judge-form-spec : {M : Type 1} → statement M
 judge-form-spec =
-    tie.close (tie.spec judge-requires returns flags-allowed-requires returns-2 returns-3)
+    tie.close (tie.spec judge-requires returns flags-allowed-requires is-version-requires returns-2 returns-3)

@@ -8,13 +8,13 @@ use Rattle.plan.proofs.leading.Statement.{statement}
 use Rattle.plan.proofs.leading.Tie as tie
 
 abbrev Inv-loop : tie.InvT-loop
-Inv-loop which list count k₀ k = Passed (isCounted which) list k
+Inv-loop which stop list count k₀ k = Passed (isCounted which stop) list k
 
 abbrev μ-loop : tie.MeasureT-loop
-μ-loop which list count k₀ k = maxChannels - k
+μ-loop which stop list count k₀ k = maxChannels - k
 
 loop-holds : tie.Need-loop-holds Inv-loop μ-loop
-loop-holds c = passed-none (isCounted _) _
+loop-holds c = passed-none (isCounted _ _) _
 
 entry-of-requires : tie.Need-entry-of-requires Inv-loop μ-loop
 entry-of-requires c κs = search needs
@@ -30,7 +30,7 @@ returns : tie.Need-returns Inv-loop μ-loop
 returns c =
     let v = c .before .before in
     let at = turn v .before in
-    passed-stop (isCounted _) _ (at .loop .k) _ _ (search needs) (v .entry-of .ensures) (c .before .is-counted .ensures) (at .loop .inv) (c .if1 .taken)
+    passed-stop (isCounted _ _) _ (at .loop .k) _ _ (search needs) (v .entry-of .ensures) (c .before .is-counted .ensures) (at .loop .inv) (c .if1 .taken)
 
 add-k : tie.Need-add-k Inv-loop μ-loop
 add-k c = search needs
@@ -42,10 +42,10 @@ loop-again : tie.Need-loop-again Inv-loop μ-loop
 loop-again c =
     let v = c .before .before in
     let at = turn v .before in
-    passed-more (isCounted _) _ (at .loop .k) _ _ (search needs) (v .entry-of .ensures) (c .before .is-counted .ensures) (at .loop .inv) (c .if1 .left)
+    passed-more (isCounted _ _) _ (at .loop .k) _ _ (search needs) (v .entry-of .ensures) (c .before .is-counted .ensures) (at .loop .inv) (c .if1 .left)
 
 returns-2 : tie.Need-returns-2 Inv-loop μ-loop
-returns-2 c = passed-all (isCounted _) _ _ (search needs) (c .before .loop .inv)
+returns-2 c = passed-all (isCounted _ _) _ _ (search needs) (c .before .loop .inv)
 
 pub leading-spec : {M : Type 1} → statement M
 leading-spec =

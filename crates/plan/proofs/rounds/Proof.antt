@@ -1,31 +1,30 @@
 -- `rounds` meets its contract: the turns that are left fit and give the whole plan (`Left` of proofs/Appended.antt). A turn lowers the sum of the
 -- sides. Assumes nothing.
 use mathlib.Core.Path.{refl}
-use Prim.Native.Nat.{_+_}
+use Prim.Native.Nat.{_+_, _≤_}
 use borrow.Author.Needs.{needs}
 use Rattle.plan.specs.Adding.{appended}
 use Rattle.plan.specs.Default as Default
-use Rattle.plan.specs.Default.{stoppingSide}
-use Rattle.plan.proofs.Turns.{stops, turn-lowers}
+use Rattle.plan.proofs.Turns.{turn-lowers}
 use Rattle.plan.proofs.Appended.{Left, left-across, left-down, left-more, left-none}
 use Rattle.plan.proofs.rounds.Statement.{statement}
 use Rattle.plan.proofs.rounds.Tie as tie
 
 abbrev Inv-loop : tie.InvT-loop
-Inv-loop m n w h horizontal vertical steps₀ width₀ height₀ steps width height =
-    Left stoppingSide m n (appended steps₀ (Default.rounds (width₀ + height₀) stoppingSide m n width₀ height₀)) steps width height
+Inv-loop stop m n w h horizontal vertical steps₀ width₀ height₀ steps width height =
+    (1 ≤ stop) × Left stop m n (appended steps₀ (Default.rounds (width₀ + height₀) stop m n width₀ height₀)) steps width height
 
 abbrev μ-loop : tie.MeasureT-loop
-μ-loop m n w h horizontal vertical steps₀ width₀ height₀ steps width height = width + height
+μ-loop stop m n w h horizontal vertical steps₀ width₀ height₀ steps width height = width + height
 
 loop-holds : tie.Need-loop-holds Inv-loop μ-loop
-loop-holds c = record { room = c .pre; so = refl }
+loop-holds c = (c .pre .0, record { room = c .pre .1; so = refl })
 
 push-if-requires : tie.Need-push-if-requires Inv-loop μ-loop
-push-if-requires c κs = left-across _ _ _ stops _ _ _ _ (c .before .loop .inv)
+push-if-requires c κs = let i = c .before .loop .inv in left-across _ _ _ (i .0) _ _ _ _ (i .1)
 
 push-if-requires-2 : tie.Need-push-if-requires-2 Inv-loop μ-loop
-push-if-requires-2 c κs = left-down _ _ _ stops _ _ _ _ (c .before .before .loop .inv) _ (c .push-if .ensures)
+push-if-requires-2 c κs = let i = c .before .before .loop .inv in left-down _ _ _ (i .0) _ _ _ _ (i .1) _ (c .push-if .ensures)
 
 lowered-requires : tie.Need-lowered-requires Inv-loop μ-loop
 lowered-requires c κs = search needs
@@ -38,15 +37,15 @@ loop-less c =
     let at = c .before .before .before .before .before in
     let w = c .before .lowered .ensures in
     let h = c .lowered2 .ensures in
-    rw (w, h) (turn-lowers stoppingSide (at .loop .width) (at .loop .height) stops (c .before .before .before .before .loop-test .taken))
+    rw (w, h) (turn-lowers _ (at .loop .width) (at .loop .height) (at .loop .inv .0) (c .before .before .before .before .loop-test .taken))
 
 loop-again : tie.Need-loop-again Inv-loop μ-loop
 loop-again c =
-    left-more _ _ _ stops _ _ _ _ (c .before .before .before .before .before .loop .inv) _ (c .before .before .before .push-if .ensures) _ _ _
-    (c .before .before .push-if2 .ensures) (c .before .lowered .ensures) (c .lowered2 .ensures)
+    let i = c .before .before .before .before .before .loop .inv in
+    (i .0, left-more _ _ _ (i .0) _ _ _ _ (i .1) _ (c .before .before .before .push-if .ensures) _ _ _ (c .before .before .push-if2 .ensures) (c .before .lowered .ensures) (c .lowered2 .ensures))
 
 returns : tie.Need-returns Inv-loop μ-loop
-returns c = left-none _ _ _ stops _ _ _ _ (c .before .loop .inv) (c .loop-test .left)
+returns c = let i = c .before .loop .inv in left-none _ _ _ (i .0) _ _ _ _ (i .1) (c .loop-test .left)
 
 pub rounds-spec : {M : Type 1} → statement M
 rounds-spec =
