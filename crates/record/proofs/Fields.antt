@@ -12,9 +12,10 @@ use Rattle.channel.specs.declared.Channel.{Channel}
 use Rattle.channel.specs.Channel.{isMeta, isAllowed}
 use Rattle.list.specs.Lists.{maxChannels, maxSteps}
 use Rattle.list.proofs.Asking.{passed}
+use Rattle.plan.specs.Version.{houseVersion}
 use Rattle.plan.specs.Steps.{flagsAllowed}
-use Rattle.record.specs.Bytes.{channelTag, channelLength, stripTag, stripLength, stepTag, stepLength, headLength, stepSize, isStrip}
-use Rattle.record.specs.Reading.{tagOf, lengthOf, fieldSize, hasStripTag, fieldChannel, flagsAt, fieldInside, hasHead, isChannel, isStep, channelAllowed, tagAllowed, judgeChannelField, judgeStepField, judgeField}
+use Rattle.record.specs.Bytes.{channelTag, channelLength, stripTag, stripLength, stepTag, stepLength, versionTag, versionLength, headLength, stepSize, versionSize, isStrip}
+use Rattle.record.specs.Reading.{byteAt, tagOf, lengthOf, fieldSize, hasStripTag, fieldChannel, flagsAt, fieldInside, hasHead, isChannel, isStep, channelAllowed, tagAllowed, judgeChannelField, judgeStepField, judgeField, judgeVersionField}
 use Rattle.record.specs.Inside.{ChannelInside}
 
 -- a tag and its length, and the two that a channel may have
@@ -31,7 +32,7 @@ module _ (bytes : List ℕ) where
       let b = and-eq-true-iff (leb headLength (length bytes)) (leb (fieldSize bytes) (length bytes)) .0 h in
       (leb-true _ _ (b .0), leb-true _ _ (b .1))
 
-  head : (tag size : ℕ) → hasHead tag size bytes ≡ true → HasHead tag size bytes
+  pub head : (tag size : ℕ) → hasHead tag size bytes ≡ true → HasHead tag size bytes
   unfolding hasHead
   head tag size h =
       let b = and-eq-true-iff (eqb (tagOf bytes) tag) (eqb (lengthOf bytes) size) .0 h in
@@ -97,6 +98,24 @@ module _ (bytes : List ℕ) where
     is-channel t =
         let k = channel-head steps (sym (or-false (isChannel bytes steps)) ∙ rw t at (known .1)) in
         record { long = head-inside (known .0) (k .0); head-is = k .0; first = k .1; judged = rw t at (known .2) }
+
+-- the version's field, where it is refused nothing
+pub record IsVersion (bytes : List ℕ) : Type 0 where
+  pub long : versionSize ≤ length bytes
+  pub head-is : HasHead versionTag versionLength bytes
+  pub value : byteAt bytes headLength ≡ houseVersion
+
+pub is-version : (bytes : List ℕ) → judgeVersionField bytes ≡ 0 → IsVersion bytes
+unfolding judgeVersionField
+is-version bytes z =
+    let p₁ = passed (fieldInside bytes) _ _ z in
+    let p₂ = passed (hasHead versionTag versionLength bytes) _ _ (p₁ .1) in
+    let p₄ = passed (eqb (byteAt bytes headLength) houseVersion) _ _ (p₂ .1) in
+    let f = head bytes versionTag versionLength (p₂ .0) in
+    record { long = omega (arith, inside bytes (p₁ .0) .1, f .1); head-is = f; value = eqb-true _ _ (p₄ .0) }
+
+pub version-long : (bytes : List ℕ) → judgeVersionField bytes ≡ 0 → versionSize ≤ length bytes
+version-long bytes z = is-version bytes z .long
 
 -- questions 3 and 4
 pub step-allowed : (bytes : List ℕ) (steps : ℕ) → judgeStepField bytes steps ≡ 0 → (steps < maxSteps) × (flagsAt bytes < 4)

@@ -1,4 +1,4 @@
--- Reading field by field: the arrays hold the channels and the steps read so far, and the fields that are left complete the form.
+-- Reading field by field: the arrays hold the channels and the steps read so far, and the fields that are left complete the form of them.
 -- Assumes nothing.
 use mathlib.Core.Path.{_≡_, refl, sym, ap, _∙_}
 use mathlib.Core.Bool.{Bool, true, false, cond}
@@ -20,14 +20,14 @@ use Rattle.plan.specs.declared.Steps.{Steps}
 use Rattle.plan.specs.Steps as S
 use Rattle.plan.specs.Adding.{pushed}
 use Rattle.plan.proofs.Packed.{packed-count, pushed-packed}
-use Rattle.record.specs.Reading.{refused, asked, fieldSize, fieldChannel, fieldStep, isStep, judgeField, finished, answerOf, readFields, formOf}
+use Rattle.record.specs.Reading.{refused, asked, fieldSize, fieldChannel, fieldStep, isStep, judgeField, finished, answerOf, readFields, fieldsOf}
 use Rattle.record.specs.Adding.{withChannel}
 use Rattle.record.specs.Records.{packedForm}
 use Rattle.record.proofs.Pushed.{metas-pushed, list-pushed, list-count}
 use Rattle.record.proofs.Fields.{judged-inside, is-step, is-channel, step-allowed, channel-allowed}
 
 -- cs and ss were read from the bytes before `at`, and `turns` are enough for those from there on
-pub record Held (bytes : List ℕ) (list : ChannelList) (steps : Steps) (metas : Bool) (at : ℕ) : Type 0 where
+pub record Held (version : ℕ) (bytes : List ℕ) (list : ChannelList) (steps : Steps) (metas : Bool) (at : ℕ) : Type 0 where
   pub cs : List Channel
   pub ss : List Step
   pub turns : ℕ
@@ -36,11 +36,11 @@ pub record Held (bytes : List ℕ) (list : ChannelList) (steps : Steps) (metas :
   pub metas-are : metas ≡ all isMeta cs
   pub inside : at ≤ length bytes
   pub enough : length bytes ≤ at + turns
-  pub so : readFields turns (drop at bytes) cs ss ≡ formOf bytes
+  pub so : readFields version turns (drop at bytes) cs ss ≡ fieldsOf version bytes
 
-pub held-none : (bytes : List ℕ) (list : ChannelList) (steps : Steps) → list ≡ Lists.packed [] → steps ≡ S.packed [] → Held bytes list steps true 0
-unfolding formOf
-held-none bytes list steps el es =
+pub held-none : (version : ℕ) (bytes : List ℕ) (list : ChannelList) (steps : Steps) → list ≡ Lists.packed [] → steps ≡ S.packed [] → Held version bytes list steps true 0
+unfolding fieldsOf
+held-none version bytes list steps el es =
     record {
       cs = [];
       ss = [];
@@ -53,7 +53,7 @@ held-none bytes list steps el es =
       so = refl;
     }
 
-module _ (bytes : List ℕ) (list : ChannelList) (steps : Steps) (metas : Bool) (at : ℕ) (w : Held bytes list steps metas at) where
+module _ (version : ℕ) (bytes : List ℕ) (list : ChannelList) (steps : Steps) (metas : Bool) (at : ℕ) (w : Held version bytes list steps metas at) where
   count-is : list .count ≡ length (w .cs)
   count-is = ap (λ (l : ChannelList). l .count) (w .list-is) ∙ list-count (w .cs)
 
@@ -62,17 +62,17 @@ module _ (bytes : List ℕ) (list : ChannelList) (steps : Steps) (metas : Bool) 
 
   -- no field is left
   module _ (h : length bytes ≤ at) where
-    done : formOf bytes ≡ finished (w .cs) (w .ss)
+    done : fieldsOf version bytes ≡ finished version (w .cs) (w .ss)
     done = sym (w .so) ∙ rw (drop-of-length-le bytes h) (go (w .turns))
       where
-        go : (t : ℕ) → readFields t [] (w .cs) (w .ss) ≡ finished (w .cs) (w .ss)
+        go : (t : ℕ) → readFields version t [] (w .cs) (w .ss) ≡ finished version (w .cs) (w .ss)
         go zero = refl
         go (suc t) = refl
 
-    pub form-missing : list .count ≡ 0 → formOf bytes ≡ refused refusedCount
+    pub form-missing : list .count ≡ 0 → fieldsOf version bytes ≡ refused refusedCount
     form-missing z = done ∙ rw (lt-leb 1 (length (w .cs)) (omega (arith, count-is)))
 
-    pub form-all : (list .count ≡ 0 → ⊥) → record { answer = 0; list = list; steps = steps } ≡ packedForm (formOf bytes)
+    pub form-all : (list .count ≡ 0 → ⊥) → record { answer = 0; version = version; list = list; steps = steps } ≡ packedForm (fieldsOf version bytes)
     unfolding packedForm
     form-all z = rw (done, le-leb 1 (length (w .cs)) (omega (arith, count-is)), w .list-is, w .steps-are)
 
@@ -85,24 +85,24 @@ module _ (bytes : List ℕ) (list : ChannelList) (steps : Steps) (metas : Bool) 
     judged : answer ≡ answerOf field (w .cs) (w .ss)
     judged = ea ∙ rw (count-is, w .metas-are, steps-count)
 
-    turn : (t : ℕ) → readFields (suc t) field (w .cs) (w .ss)
+    turn : (t : ℕ) → readFields version (suc t) field (w .cs) (w .ss)
         ≡ asked (eqb answer 0) answer
         (cond (isStep field)
-        (readFields t (drop (fieldSize field) field) (w .cs) (w .ss ++ (fieldStep field ∷ [])))
-        (readFields t (drop (fieldSize field) field) (w .cs ++ (fieldChannel field ∷ [])) (w .ss)))
+        (readFields version t (drop (fieldSize field) field) (w .cs) (w .ss ++ (fieldStep field ∷ [])))
+        (readFields version t (drop (fieldSize field) field) (w .cs ++ (fieldChannel field ∷ [])) (w .ss)))
     turn t =
         let n : length field ≡ 0 → ⊥ = λ e. omega (arith, length-drop at bytes, ap length whole) in
         rw (ne-eqb (length field) 0 n, ← judged)
 
-    more : (t : ℕ) × (w .turns ≡ suc t) × (readFields (suc t) field (w .cs) (w .ss) ≡ formOf bytes)
+    more : (t : ℕ) × (w .turns ≡ suc t) × (readFields version (suc t) field (w .cs) (w .ss) ≡ fieldsOf version bytes)
     more = go (w .turns) refl (w .enough) (rw whole (w .so))
       where
-        go : (t : ℕ) → w .turns ≡ t → length bytes ≤ at + t → readFields t field (w .cs) (w .ss) ≡ formOf bytes
-            → (s : ℕ) × (w .turns ≡ suc s) × (readFields (suc s) field (w .cs) (w .ss) ≡ formOf bytes)
+        go : (t : ℕ) → w .turns ≡ t → length bytes ≤ at + t → readFields version t field (w .cs) (w .ss) ≡ fieldsOf version bytes
+            → (s : ℕ) × (w .turns ≡ suc s) × (readFields version (suc s) field (w .cs) (w .ss) ≡ fieldsOf version bytes)
         go zero et l e = absurd (omega arith)
         go (suc t) et l e = (t, et, e)
 
-    pub form-refused : (answer ≡ 0 → ⊥) → formOf bytes ≡ refused answer
+    pub form-refused : (answer ≡ 0 → ⊥) → fieldsOf version bytes ≡ refused answer
     form-refused z = sym (more .2) ∙ turn (more .0) ∙ rw (ne-eqb answer 0 z)
 
     module _ (z : answer ≡ 0) where
@@ -116,7 +116,7 @@ module _ (bytes : List ℕ) (list : ChannelList) (steps : Steps) (metas : Bool) 
       long = omega (arith, judged-inside field _ _ _ accepted .1, length-drop at bytes, ap length whole)
 
       pub held-step : (l : ChannelList) (s : Steps) (m : Bool) → isStep field ≡ true → s ≡ pushed steps (fieldStep field) → l ≡ list → m ≡ metas
-          → Held bytes l s m (at + fieldSize field)
+          → Held version bytes l s m (at + fieldSize field)
       held-step l s m k es el em =
           let f = is-step field _ _ _ accepted k in
           let a = step-allowed field _ (f .judged) in
@@ -133,7 +133,7 @@ module _ (bytes : List ℕ) (list : ChannelList) (steps : Steps) (metas : Bool) 
           }
 
       pub held-channel : (l : ChannelList) (s : Steps) (m : Bool) (c : Channel) → isStep field ≡ false → c ≡ fieldChannel field → l ≡ withChannel list c → s ≡ steps → m ≡ isMeta c
-          → Held bytes l s m (at + fieldSize field)
+          → Held version bytes l s m (at + fieldSize field)
       held-channel l s m c k ec el es em =
           let f = is-channel field _ _ _ accepted k in
           let a = channel-allowed field _ _ (f .judged) in

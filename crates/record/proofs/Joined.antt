@@ -5,11 +5,13 @@ use mathlib.Core.List.{List, [], _∷_, _++_, append-nil, append-assoc}
 use Prim.Native.Nat.{ℕ, _*_, _≤_}
 use native.Mathlib.Nat.{mul-zero, mul-suc}
 use native.Mathlib.Omega.{arith}
+use lib.Dec.{eqb}
 use lib.ListN.{length, length-append}
 use Rattle.channel.specs.declared.Channel.{Channel}
 use Rattle.list.specs.declared.Step.{Step}
 use Rattle.list.specs.Lists.{maxChannels, maxSteps}
-use Rattle.record.specs.Bytes.{channelSize, stripSize, stepSize, isStrip, shortField, stripField, channelField, stepField, joined, channelFields, stepFields, recordOf, recordRoom}
+use Rattle.plan.specs.Version.{houseVersion}
+use Rattle.record.specs.Bytes.{channelSize, stripSize, stepSize, versionTag, versionLength, versionSize, low, high, isStrip, shortField, stripField, channelField, stepField, versionField, joined, channelFields, stepFields, listFields, recordOf, recordRoom}
 
 -- a channel's field, by its kind
 pub channel-field : (c : Channel) (strip : Bool) → isStrip c ≡ strip → channelField c ≡ cond strip (stripField c) (shortField c)
@@ -51,7 +53,23 @@ module _ {ℓ} {A : Type ℓ} (field : A → List ℕ) where
 pub channels-most : (cs : List Channel) → length cs ≤ maxChannels → length (channelFields cs) ≤ stripSize * maxChannels
 channels-most cs h = omega (arith, joined-within channelField channelSize stripSize channel-within cs .1)
 
-pub record-most : (cs : List Channel) (ss : List Step) → length cs ≤ maxChannels → length ss ≤ maxSteps → length (recordOf cs ss) ≤ recordRoom
-unfolding recordOf
-record-most cs ss c s =
-    omega (arith, length-append (channelFields cs) (stepFields ss), channels-most cs c, joined-length stepField stepSize step-size ss)
+pub version-within : (version : ℕ) → length (versionField version) ≤ versionSize
+unfolding versionField
+version-within version = go (eqb version houseVersion)
+  where
+    go : (b : Bool) → length (cond b (versionTag ∷ low versionLength ∷ high versionLength ∷ houseVersion ∷ []) []) ≤ versionSize
+    go true = omega arith
+    go false = omega arith
+
+pub record-most : (version : ℕ) (cs : List Channel) (ss : List Step) → length cs ≤ maxChannels → length ss ≤ maxSteps
+    → length (recordOf version cs ss) ≤ recordRoom
+unfolding listFields recordOf
+record-most version cs ss c s =
+    omega (
+      arith,
+      length-append (versionField version) (channelFields cs ++ stepFields ss),
+      length-append (channelFields cs) (stepFields ss),
+      version-within version,
+      channels-most cs c,
+      joined-length stepField stepSize step-size ss,
+    )

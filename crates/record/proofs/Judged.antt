@@ -27,7 +27,7 @@ use Rattle.plan.specs.Steps.{flagsOf, flagsAllowed}
 use Rattle.plan.specs.Plans as P
 use Rattle.plan.specs.Plans.{judgeForm, judgeMeant, judgePlan, rewritten}
 use Rattle.plan.proofs.Packed.{packed-count, steps-packed}
-use Rattle.plan.proofs.Judged.{judged-parts, judged-list, steps-few}
+use Rattle.plan.proofs.Judged.{judged-version, judged-parts, judged-list, steps-few}
 use Rattle.record.proofs.Flags.{flags-allowed}
 
 all-entries {ℓ} : {A : Type ℓ} (p : A → Bool) (f : ℕ → A) (n : ℕ) → ((i : ℕ) → i < n → p (f i) ≡ true) → (k m : ℕ) → k + m ≤ n → all p (table f k m) ≡ true
@@ -46,12 +46,12 @@ flags-fit ss = all-entries flagsAllowed _ maxSteps entry 0 (min (length ss) maxS
     entry i h = rw (padded-at maxSteps (map flagsOf ss) i h, map-default flagsOf ss i none) (flags-allowed (getD ss i none))
 
 -- the same list and steps, unused entries 0
-module _ (l : ChannelList) (s : Steps) (h : judgePlan l s ≡ 0) where
-  pub judged-packed : judgePlan (Lists.packed (channels l)) (S.packed (S.steps s)) ≡ 0
+module _ (version : ℕ) (l : ChannelList) (s : Steps) (h : judgePlan version l s ≡ 0) where
+  pub judged-packed : judgePlan version (Lists.packed (channels l)) (S.packed (S.steps s)) ≡ 0
   unfolding P.judgePlan P.judgeForm Q.judgeList
   judged-packed =
-      let a = list-accepted l (judged-list l s h) in
-      let few = steps-few l s h in
+      let a = list-accepted l (judged-list version l s h) in
+      let few = steps-few version l s h in
       let p₃ = passed (countAllowed (Lists.packed (channels l) .count)) _ _ (packed-accepted (channels l) a) in
       let p₄ = passed (channelsAllowed (channels (Lists.packed (channels l)))) _ _ (p₃ .1) in
       let p₅ = passed (totalAllowed (channels (Lists.packed (channels l)))) _ _ (p₄ .1) in
@@ -61,7 +61,8 @@ module _ (l : ChannelList) (s : Steps) (h : judgePlan l s ≡ 0) where
         le-leb (S.packed (S.steps s) .count) maxSteps n,
         p₄ .0,
         flags-fit (S.steps s),
+        judged-version version l s h,
         p₅ .0,
         steps-packed (S.steps s) few,
         channels-packed (channels l) (a .few),
-      ) (judged-parts l s h .1)
+      ) (judged-parts version l s h .1)

@@ -1,13 +1,13 @@
 -- A record that the writer makes reads as what it was made of: each field is accepted and gives its channel or step. Assumes nothing.
-use mathlib.Core.Path.{_≡_, refl, ap, _∙_}
+use mathlib.Core.Path.{_≡_, refl, sym, ap, _∙_}
 use mathlib.Core.Bool.{Bool, true, false, cond, _&&_, _||_, not, or-true, and-eq-true-iff, Bool·not-not, true≢false, false≢true}
 use mathlib.Core.List.{List, [], _∷_, _++_, append-nil, append-assoc}
 use Prim.Native.Nat.{ℕ, zero, suc, _+_, _<_, _≤_}
 use native.Mathlib.Omega.{arith}
-use lib.Dec.{ltb}
+use lib.Dec.{eqb, ltb}
 use lib.ListN.{length, drop, length-append}
 use lib.Seq.{append-snoc, take-append-seam}
-use borrow.Author.Tests.{ltb-false, lt-ltb, le-leb, ne-eqb}
+use borrow.Author.Tests.{eqb-true, ltb-false, lt-ltb, le-leb, ne-eqb}
 use Rattle.channel.specs.declared.Channel.{Channel}
 use Rattle.channel.specs.Channel.{isMeta, shiftsAllowed, sidesFit, isAllowed}
 use Rattle.channel.proofs.Sides.{fit-sides}
@@ -21,12 +21,13 @@ use Rattle.list.specs.Questions.{judgeStep, metaFirst}
 use Rattle.list.proofs.MetaFirst.{allowedAfter}
 use Rattle.list.proofs.Acceptance.{list-accepted, step-accepted}
 use Rattle.plan.specs.declared.Steps.{Steps}
+use Rattle.plan.specs.Version.{standardVersion, houseVersion, isVersion}
 use Rattle.plan.specs.Steps as S
 use Rattle.plan.specs.Plans as P
 use Rattle.plan.specs.Plans.{judgeSteps, judgeMeant, judgePlan}
 use Rattle.record.specs.declared.Record.{Record}
-use Rattle.record.specs.Bytes.{headLength, maxShortSide, isStrip, shortField, stripField, channelField, stepField, channelFields, stepFields, recordOf}
-use Rattle.record.specs.Reading.{fieldSize, fieldChannel, fieldStep, fieldInside, hasHead, isChannel, isStep, channelAllowed, tagAllowed, judgeChannelField, judgeStepField, judgeField, answerOf, readFields, formOf}
+use Rattle.record.specs.Bytes.{versionTag, versionLength, headLength, low, high, maxShortSide, isStrip, shortField, stripField, channelField, stepField, versionField, channelFields, stepFields, listFields, recordOf}
+use Rattle.record.specs.Reading.{fieldSize, fieldChannel, fieldStep, fieldInside, hasHead, isChannel, isStep, channelAllowed, tagAllowed, judgeChannelField, judgeStepField, judgeField, answerOf, readFields, fieldsOf, hasVersionTag, judgeVersionField, formOf}
 use Rattle.record.specs.Records.{readAnswer, readOf, recordFor}
 use Rattle.record.specs.Laws.{ReadWritten, ReadWrittenLaw}
 use Rattle.record.proofs.Fields.{judged-inside}
@@ -35,7 +36,7 @@ use Rattle.record.proofs.Words.{word-back, long-back}
 use Rattle.record.proofs.Pushed.{metas-pushed}
 use Rattle.record.proofs.Joined.{channel-within, step-size}
 use Rattle.plan.proofs.Runs.{none-refused}
-use Rattle.plan.proofs.Judged.{judged-parts, judged-list, steps-few}
+use Rattle.plan.proofs.Judged.{judged-parts, judged-list, judged-version, steps-few}
 use Rattle.record.proofs.Judged.{judged-packed}
 use Rattle.record.proofs.Outcomes.{written-length, written-bytes}
 
@@ -45,10 +46,10 @@ unfolding fieldInside
 is-inside bytes h m = rw (le-leb headLength (length bytes) h, le-leb (fieldSize bytes) (length bytes) m)
 
 -- a field that is refused nothing
-field-turn : (bytes rest : List ℕ) (cs : List Channel) (ss : List Step) → answerOf bytes cs ss ≡ 0 → drop (fieldSize bytes) bytes ≡ rest → (turns : ℕ)
-    → readFields (suc turns) bytes cs ss
-    ≡ cond (isStep bytes) (readFields turns rest cs (ss ++ fieldStep bytes ∷ [])) (readFields turns rest (cs ++ fieldChannel bytes ∷ []) ss)
-field-turn bytes rest cs ss z e turns =
+field-turn : (version : ℕ) (bytes rest : List ℕ) (cs : List Channel) (ss : List Step) → answerOf bytes cs ss ≡ 0 → drop (fieldSize bytes) bytes ≡ rest → (turns : ℕ)
+    → readFields version (suc turns) bytes cs ss
+    ≡ cond (isStep bytes) (readFields version turns rest cs (ss ++ fieldStep bytes ∷ [])) (readFields version turns rest (cs ++ fieldChannel bytes ∷ []) ss)
+field-turn version bytes rest cs ss z e turns =
     let n : length bytes ≡ 0 → ⊥ = λ k. omega (arith, judged-inside bytes _ _ _ z .0) in
     rw (ne-eqb (length bytes) 0 n, z, e)
 
@@ -76,10 +77,10 @@ module _ (s : Step) (rest : List ℕ) (fits : StepFits s) where
   unfolding stepField
   step-rest = refl
 
-  step-turn : (turns : ℕ) (cs : List Channel) (ss : List Step) → length ss < maxSteps
-      → readFields (suc turns) (stepField s ++ rest) cs ss ≡ readFields turns rest cs (ss ++ s ∷ [])
-  step-turn turns cs ss h =
-      field-turn (stepField s ++ rest) rest cs ss (step-judged (length cs) (all isMeta cs) (length ss) h) step-rest turns ∙ rw (step-known, step-read)
+  step-turn : (version turns : ℕ) (cs : List Channel) (ss : List Step) → length ss < maxSteps
+      → readFields version (suc turns) (stepField s ++ rest) cs ss ≡ readFields version turns rest cs (ss ++ s ∷ [])
+  step-turn version turns cs ss h =
+      field-turn version (stepField s ++ rest) rest cs ss (step-judged (length cs) (all isMeta cs) (length ss) h) step-rest turns ∙ rw (step-known, step-read)
 
 -- bytes that begin with a field of the channel c, of either kind
 record Reads (c : Channel) (bytes rest : List ℕ) : Type 0 where
@@ -150,25 +151,25 @@ module _ (c : Channel) (rest : List ℕ) where
       let r = channel-reads (allowed-sides metas a) in
       rw (r .inside-is, r .known, r .other, lt-ltb channels maxChannels h, r .read, a, r .tag)
 
-  channel-turn : (turns : ℕ) (cs : List Channel) → length cs < maxChannels → channelAllowed c (all isMeta cs) ≡ true
-      → readFields (suc turns) (channelField c ++ rest) cs [] ≡ readFields turns rest (cs ++ c ∷ []) []
-  channel-turn turns cs h a =
+  channel-turn : (version turns : ℕ) (cs : List Channel) → length cs < maxChannels → channelAllowed c (all isMeta cs) ≡ true
+      → readFields version (suc turns) (channelField c ++ rest) cs [] ≡ readFields version turns rest (cs ++ c ∷ []) []
+  channel-turn version turns cs h a =
       let r = channel-reads (allowed-sides (all isMeta cs) a) in
-      field-turn (channelField c ++ rest) rest cs [] (channel-judged (length cs) (all isMeta cs) h a) (r .rest-is) turns ∙ rw (r .other, r .read)
+      field-turn version (channelField c ++ rest) rest cs [] (channel-judged (length cs) (all isMeta cs) h a) (r .rest-is) turns ∙ rw (r .other, r .read)
 
 -- ---- the fields of a record
 abbrev Each {ℓ} : {A : Type ℓ} → (A → Type 0) → List A → Type 0
 Each P [] = Unit {0}
 Each P (x ∷ xs) = P x × Each P xs
 
-steps-read : (turns : ℕ) (cs : List Channel) (done ss : List Step) → 1 ≤ length cs → length done + length ss ≤ maxSteps → Each StepFits ss
-    → length (stepFields ss) ≤ turns → readFields turns (stepFields ss) cs done ≡ record { answer = 0; channels = cs; steps = done ++ ss }
-steps-read zero cs done [] some few f l = rw (le-leb 1 (length cs) some, append-nil)
-steps-read (suc turns) cs done [] some few f l = rw (le-leb 1 (length cs) some, append-nil)
-steps-read zero cs done (s ∷ ss) some few f l = absurd (omega (arith, length-append (stepField s) (stepFields ss), step-size s))
-steps-read (suc turns) cs done (s ∷ ss) some few f l =
-    step-turn s (stepFields ss) (f .0) turns cs done (omega arith)
-    ∙ steps-read turns cs (done ++ s ∷ []) ss some (omega (arith, length-append done (s ∷ []))) (f .1)
+steps-read : (version turns : ℕ) (cs : List Channel) (done ss : List Step) → 1 ≤ length cs → length done + length ss ≤ maxSteps → Each StepFits ss
+    → length (stepFields ss) ≤ turns → readFields version turns (stepFields ss) cs done ≡ record { answer = 0; version = version; channels = cs; steps = done ++ ss }
+steps-read version zero cs done [] some few f l = rw (le-leb 1 (length cs) some, append-nil)
+steps-read version (suc turns) cs done [] some few f l = rw (le-leb 1 (length cs) some, append-nil)
+steps-read version zero cs done (s ∷ ss) some few f l = absurd (omega (arith, length-append (stepField s) (stepFields ss), step-size s))
+steps-read version (suc turns) cs done (s ∷ ss) some few f l =
+    step-turn s (stepFields ss) (f .0) version turns cs done (omega arith)
+    ∙ steps-read version turns cs (done ++ s ∷ []) ss some (omega (arith, length-append done (s ∷ []))) (f .1)
     (omega (arith, length-append (stepField s) (stepFields ss), step-size s))
     ∙ rw (append-snoc done s ss)
 
@@ -190,16 +191,16 @@ module _ (done : List Channel) (c : Channel) (cs : List Channel) (h : allowedAft
   after : allowedAfter (not (all isMeta (done ++ c ∷ []))) cs ≡ true
   after = rw (← metas-pushed done c (first .0)) (first .1)
 
-channels-read : (turns : ℕ) (done cs : List Channel) (ss : List Step) → 1 ≤ length done + length cs → length done + length cs ≤ maxChannels → length ss ≤ maxSteps
+channels-read : (version turns : ℕ) (done cs : List Channel) (ss : List Step) → 1 ≤ length done + length cs → length done + length cs ≤ maxChannels → length ss ≤ maxSteps
     → allowedAfter (not (all isMeta done)) cs ≡ true → Each StepFits ss → length (channelFields cs ++ stepFields ss) ≤ turns
-    → readFields turns (channelFields cs ++ stepFields ss) done [] ≡ record { answer = 0; channels = done ++ cs; steps = ss }
-channels-read turns done [] ss some few short a fs l = steps-read turns done [] ss (omega arith) (omega arith) fs l ∙ rw (append-nil done)
-channels-read zero done (c ∷ cs) ss some few short a fs l =
+    → readFields version turns (channelFields cs ++ stepFields ss) done [] ≡ record { answer = 0; version = version; channels = done ++ cs; steps = ss }
+channels-read version turns done [] ss some few short a fs l = steps-read version turns done [] ss (omega arith) (omega arith) fs l ∙ rw (append-nil done)
+channels-read version zero done (c ∷ cs) ss some few short a fs l =
     absurd (omega (arith, length-append (channelField c ++ channelFields cs) (stepFields ss), length-append (channelField c) (channelFields cs), channel-within c .0))
-channels-read (suc turns) done (c ∷ cs) ss some few short a fs l =
+channels-read version (suc turns) done (c ∷ cs) ss some few short a fs l =
     rw (append-assoc (channelField c) (channelFields cs) (stepFields ss))
-    (channel-turn c (channelFields cs ++ stepFields ss) turns done (omega arith) (first done c cs a .0)
-    ∙ channels-read turns (done ++ c ∷ []) cs ss (omega (arith, length-append done (c ∷ []))) (omega (arith, length-append done (c ∷ []))) short (after done c cs a) fs
+    (channel-turn c (channelFields cs ++ stepFields ss) version turns done (omega arith) (first done c cs a .0)
+    ∙ channels-read version turns (done ++ c ∷ []) cs ss (omega (arith, length-append done (c ∷ []))) (omega (arith, length-append done (c ∷ []))) short (after done c cs a) fs
     (omega (
       arith,
       length-append (channelField c ++ channelFields cs) (stepFields ss),
@@ -218,34 +219,65 @@ steps-fit (s ∷ ss) cs h =
     let a = step-accepted s cs (b .0) in
     ((omega (arith, a .inside, a .room), omega (arith, a .inside, a .room)), steps-fit ss (stepped s cs) (b .1))
 
-meant-fit : (ss : List Step) (cs : List Channel) → judgeMeant ss cs ≡ 0 → Each StepFits ss
+meant-fit : (version : ℕ) (ss : List Step) (cs : List Channel) → judgeMeant version ss cs ≡ 0 → Each StepFits ss
 unfolding P.judgeMeant P.meantAllowed P.meant
-meant-fit [] cs h = tt
-meant-fit (s ∷ ss) cs h = steps-fit (s ∷ ss) cs h
+meant-fit version [] cs h = tt
+meant-fit version (s ∷ ss) cs h = steps-fit (s ∷ ss) cs h
 
-module _ (l : ChannelList) (s : Steps) (h : judgePlan l s ≡ 0) where
-  form-is : formOf (recordFor l s) ≡ record { answer = 0; channels = channels l; steps = S.steps s }
-  unfolding formOf recordOf Q.channelsAllowed
+-- no field of a channel or a step has the version's tag
+channels-tag : (c : Channel) (rest : List ℕ) → hasVersionTag (channelField c ++ rest) ≡ false
+unfolding channelField shortField stripField
+channels-tag c rest = go (isStrip c)
+  where
+    go : (t : Bool) → hasVersionTag (cond t (stripField c) (shortField c) ++ rest) ≡ false
+    go true = refl
+    go false = refl
+
+list-tag : (cs : List Channel) (ss : List Step) → 1 ≤ length cs → hasVersionTag (listFields cs ss) ≡ false
+unfolding listFields
+list-tag [] ss h = absurd (omega arith)
+list-tag (c ∷ cs) ss h = rw (append-assoc (channelField c) (channelFields cs) (stepFields ss)) (channels-tag c (channelFields cs ++ stepFields ss))
+
+-- a record's form is that of its list's fields, with the version that stands before them
+version-first : (version : ℕ) (cs : List Channel) (ss : List Step) → isVersion version ≡ true → 1 ≤ length cs
+    → formOf (recordOf version cs ss) ≡ fieldsOf version (listFields cs ss)
+unfolding isVersion versionField recordOf formOf judgeVersionField fieldInside hasHead
+version-first version cs ss known some = go (eqb version standardVersion) (eqb version houseVersion) refl refl known
+  where
+    -- the field lies inside: four bytes are there
+    house : formOf (versionTag ∷ low versionLength ∷ high versionLength ∷ houseVersion ∷ listFields cs ss) ≡ fieldsOf houseVersion (listFields cs ss)
+    house = let n = length (listFields cs ss) in rw (le-leb headLength (suc (suc (suc (suc n)))) (omega arith), le-leb (suc (suc (suc (suc zero)))) (suc (suc (suc (suc n)))) (omega arith))
+
+    go : (a b : Bool) → eqb version standardVersion ≡ a → eqb version houseVersion ≡ b → (a || b) ≡ true
+        → formOf (cond b (versionTag ∷ low versionLength ∷ high versionLength ∷ houseVersion ∷ []) [] ++ listFields cs ss) ≡ fieldsOf version (listFields cs ss)
+    go a true ea eb k = rw (eqb-true version houseVersion eb) house
+    go true false ea eb k = rw (list-tag cs ss some, eqb-true version standardVersion ea)
+    go false false ea eb k = absurd (true≢false (sym k))
+
+module _ (version : ℕ) (l : ChannelList) (s : Steps) (h : judgePlan version l s ≡ 0) where
+  form-is : formOf (recordFor version l s) ≡ record { answer = 0; version = version; channels = channels l; steps = S.steps s }
+  unfolding fieldsOf listFields Q.channelsAllowed
   form-is =
-      let a = list-accepted l (judged-list l s h) in
-      channels-read (length (recordFor l s)) [] (channels l) (S.steps s) (omega (arith, a .some)) (omega (arith, a .few)) (steps-few l s h) (a .allowed)
-      (meant-fit (S.steps s) (channels l) (judged-parts l s h .1)) (omega arith)
+      let a = list-accepted l (judged-list version l s h) in
+      version-first version (channels l) (S.steps s) (judged-version version l s h) (a .some)
+      ∙ channels-read version (length (listFields (channels l) (S.steps s))) [] (channels l) (S.steps s) (omega (arith, a .some)) (omega (arith, a .few))
+      (steps-few version l s h) (a .allowed) (meant-fit version (S.steps s) (channels l) (judged-parts version l s h .1)) (omega arith)
 
-  read-is : readOf (recordFor l s) ≡ record { answer = 0; list = Lists.packed (channels l); steps = S.packed (S.steps s) }
+  read-is : readOf (recordFor version l s) ≡ record { answer = 0; version = version; list = Lists.packed (channels l); steps = S.packed (S.steps s) }
   unfolding readOf readAnswer
-  read-is = rw (form-is, judged-packed l s h)
+  read-is = rw (form-is, judged-packed version l s h)
 
   none-stays : s .count ≡ 0 → S.steps s ≡ []
   unfolding S.steps
   none-stays e = rw e
 
-  gives-back : ReadWritten l s
+  gives-back : ReadWritten version l s
   gives-back =
       record {
         form = form-is;
         read = read-is;
         none = λ e. ap (λ (r : Record). r .steps) read-is ∙ ap S.packed (none-stays e);
-        written = λ out e. rw (written-length l s out e, written-bytes l s out e) (take-append-seam (recordFor l s) (drop (length (recordFor l s)) out));
+        written = λ out e. rw (written-length version l s out e, written-bytes version l s out e) (take-append-seam (recordFor version l s) (drop (length (recordFor version l s)) out));
       }
 
 pub read-written : ReadWrittenLaw

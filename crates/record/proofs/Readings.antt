@@ -1,4 +1,4 @@
--- What `read_record` gives (specs/Records.antt): its answer, and of a record that is accepted the list and the steps that its fields hold, which the
+-- What `read_record` gives (specs/Records.antt): its answer, and of a record that is accepted the version, the list and the steps that its fields hold, which the
 -- questions accept. Assumes nothing.
 use mathlib.Core.Path.{_≡_, refl, sym, ap, _∙_}
 use mathlib.Core.Bool.{Bool, true, false}
@@ -24,7 +24,7 @@ use Rattle.plan.proofs.Longest.{meant-few}
 use Rattle.record.specs.declared.Record.{Record}
 use Rattle.record.specs.Reading.{formOf}
 use Rattle.record.specs.Records as R
-use Rattle.record.specs.Records.{readAnswer, readOf, channelsOf, stepsOf}
+use Rattle.record.specs.Records.{readAnswer, readOf, versionOf, channelsOf, stepsOf}
 
 module _ (bytes : List ℕ) (f : Record) (e : f ≡ readOf bytes) where
   pub read-answer : f .answer ≡ readAnswer bytes
@@ -40,6 +40,10 @@ module _ (bytes : List ℕ) (f : Record) (e : f ≡ readOf bytes) where
     pub read-zero : readAnswer bytes ≡ 0
     read-zero = sym read-answer ∙ z
 
+    pub version-is : f .version ≡ versionOf bytes
+    unfolding R.readOf
+    version-is = ap (λ (x : Record). x .version) e ∙ rw read-zero
+
     list-is : f .list ≡ Lists.packed (formOf bytes .channels)
     unfolding R.readOf
     list-is = ap (λ (x : Record). x .list) e ∙ rw read-zero
@@ -48,20 +52,20 @@ module _ (bytes : List ℕ) (f : Record) (e : f ≡ readOf bytes) where
     unfolding R.readOf
     steps-is = ap (λ (x : Record). x .steps) e ∙ rw read-zero
 
-    pub read-judged : judgePlan (f .list) (f .steps) ≡ 0
+    pub read-judged : judgePlan (f .version) (f .list) (f .steps) ≡ 0
     unfolding R.readAnswer
-    read-judged = rw (list-is, steps-is) (none-refused (formOf bytes .answer) _ read-zero .1)
+    read-judged = rw (version-is, list-is, steps-is) (none-refused (formOf bytes .answer) _ read-zero .1)
 
     pub list-back : channels (f .list) ≡ formOf bytes .channels
     unfolding Lists.packed
     list-back =
         ap channels list-is
-        ∙ channels-packed (formOf bytes .channels) (omega (arith, ap (λ (x : ChannelList). x .count) list-is, judged-counts (f .list) (f .steps) read-judged .0))
+        ∙ channels-packed (formOf bytes .channels) (omega (arith, ap (λ (x : ChannelList). x .count) list-is, judged-counts (f .version) (f .list) (f .steps) read-judged .0))
 
     pub steps-back : steps (f .steps) ≡ formOf bytes .steps
     steps-back =
         ap steps steps-is
-        ∙ steps-packed (formOf bytes .steps) (omega (arith, packed-count (f .steps) (formOf bytes .steps) steps-is, judged-counts (f .list) (f .steps) read-judged .1))
+        ∙ steps-packed (formOf bytes .steps) (omega (arith, packed-count (f .steps) (formOf bytes .steps) steps-is, judged-counts (f .version) (f .list) (f .steps) read-judged .1))
 
 -- a record that is accepted: its channels and the steps that are meant
 module _ (bytes : List ℕ) (z : readAnswer bytes ≡ 0) where
@@ -71,14 +75,14 @@ module _ (bytes : List ℕ) (z : readAnswer bytes ≡ 0) where
   pub channels-accepted : Accepted (channelsOf bytes)
   channels-accepted =
       rw (list-back bytes (readOf bytes) refl read-ok) at
-      (list-accepted (readOf bytes .list) (judged-list (readOf bytes .list) (readOf bytes .steps) (read-judged bytes (readOf bytes) refl read-ok)))
+      (list-accepted (readOf bytes .list) (judged-list (readOf bytes .version) (readOf bytes .list) (readOf bytes .steps) (read-judged bytes (readOf bytes) refl read-ok)))
 
   pub steps-few : length (stepsOf bytes) ≤ maxSteps
   steps-few =
-      rw (list-back bytes (readOf bytes) refl read-ok, steps-back bytes (readOf bytes) refl read-ok) at
-      (meant-few (readOf bytes .list) (readOf bytes .steps) (read-judged bytes (readOf bytes) refl read-ok))
+      rw (version-is bytes (readOf bytes) refl read-ok, list-back bytes (readOf bytes) refl read-ok, steps-back bytes (readOf bytes) refl read-ok) at
+      (meant-few (readOf bytes .version) (readOf bytes .list) (readOf bytes .steps) (read-judged bytes (readOf bytes) refl read-ok))
 
   pub steps-judged : judgeSteps (stepsOf bytes) (channelsOf bytes) ≡ 0
   steps-judged =
-      rw (list-back bytes (readOf bytes) refl read-ok, steps-back bytes (readOf bytes) refl read-ok) at
-      (meant-judged (readOf bytes .list) (readOf bytes .steps) (read-judged bytes (readOf bytes) refl read-ok))
+      rw (version-is bytes (readOf bytes) refl read-ok, list-back bytes (readOf bytes) refl read-ok, steps-back bytes (readOf bytes) refl read-ok) at
+      (meant-judged (readOf bytes .version) (readOf bytes .list) (readOf bytes .steps) (read-judged bytes (readOf bytes) refl read-ok))

@@ -1,5 +1,5 @@
 -- Numbers as bytes: a number of two or four bytes is that of its bytes, bytes are those of their number, and so a field that is refused nothing is
--- that of its channel or step. Assumes nothing.
+-- that of its channel, step or version. Assumes nothing.
 use mathlib.Core.Path.{_≡_, sym, ap, _∙_}
 use mathlib.Core.Bool.{Bool, true}
 use mathlib.Core.Logic.{inl, inr}
@@ -11,10 +11,11 @@ use lib.Seq.{ext-getD, getD-take, length-take-le}
 use borrow.Author.Tests.{le-ltb}
 use Rattle.list.specs.Tables.{table}
 use Rattle.list.proofs.Tables.{table-length, table-at}
-use Rattle.record.specs.Bytes.{channelTag, channelLength, stripTag, stripLength, stepTag, stepLength, headLength, low, high, word, upper, long, maxShortSide, isStrip, shortField, stripField, channelField, stepField}
-use Rattle.record.specs.Reading.{byteAt, fieldSize, stripChannel, fieldChannel, fieldStep, tagAllowed}
+use Rattle.plan.specs.Version.{houseVersion}
+use Rattle.record.specs.Bytes.{channelTag, channelLength, stripTag, stripLength, stepTag, stepLength, versionTag, versionLength, versionSize, headLength, low, high, word, upper, long, maxShortSide, isStrip, shortField, stripField, channelField, stepField, versionField}
+use Rattle.record.specs.Reading.{byteAt, fieldSize, stripChannel, fieldChannel, fieldStep, tagAllowed, judgeVersionField}
 use Rattle.record.specs.Laws.{AreBytes}
-use Rattle.record.proofs.Fields.{HasHead, ChannelHead, IsStep, IsChannel, step-allowed, channel-allowed}
+use Rattle.record.proofs.Fields.{HasHead, ChannelHead, is-version, IsStep, IsChannel, step-allowed, channel-allowed}
 use Rattle.record.proofs.Flags.{flags-read}
 
 pub word-back : (n : ℕ) → n < 65536 → word (low n) (high n) ≡ n
@@ -68,6 +69,15 @@ module _ (bytes : List ℕ) (b : AreBytes bytes) where
   step-bytes steps m f =
       field-bytes stepTag stepLength (omega arith) (f .head-is) m (stepField (fieldStep bytes))
       (rw (flags-read bytes (step-allowed bytes steps (f .judged) .1), low-at 4, high-at 4, low-at 6, high-at 6))
+
+  -- the version's field, where it is refused nothing
+  pub version-bytes : judgeVersionField bytes ≡ 0 → bytes ≡ versionField houseVersion ++ drop versionSize bytes
+  unfolding versionField
+  version-bytes z =
+      let f = is-version bytes z in
+      let n : fieldSize bytes ≡ versionSize = omega (arith, f .head-is .1) in
+      rw n at
+      (field-bytes versionTag versionLength (omega arith) (f .head-is) (omega (arith, f .long)) (versionField houseVersion) (rw (f .value)))
 
   module _ (m : fieldSize bytes ≤ length bytes) where
     -- under tag 1 a channel is no strip

@@ -1,16 +1,17 @@
--- The record's bytes (document 01, "Record"; document 02, A.8): "Fields of a one-byte tag, a two-byte length and that many bytes; all integers
--- little-endian." The one record of a channel list and its steps. Definitions only.
+-- The record's bytes (document 01, "Record"; document 02, A.8 and A.11): "Fields of a one-byte tag, a two-byte length and that many bytes; all integers
+-- little-endian." The one record of a plan version, a channel list and its steps. Definitions only.
 use mathlib.Core.Bool.{Bool, cond, _||_}
 use mathlib.Core.List.{List, [], _∷_, _++_}
 use Prim.Native.Nat.{ℕ, _+_, _*_, _/_, _%_}
-use lib.Dec.{leb, ltb}
+use lib.Dec.{eqb, leb, ltb}
 use lib.ListN.{length, take, drop}
 use Rattle.channel.specs.declared.Channel.{Channel}
 use Rattle.list.specs.declared.Step.{Step}
 use Rattle.list.specs.Lists.{maxChannels, maxSteps}
+use Rattle.plan.specs.Version.{houseVersion}
 use Rattle.plan.specs.Steps.{flagsOf}
 
--- "Tag 1, channel, length 6"; "Tag 2, step, length 5"; "tag 3, length 10"
+-- "Tag 1, channel, length 6"; "Tag 2, step, length 5"; "tag 3, length 10"; "tag 4, length 1"
 abbrev pub channelTag : ℕ
 channelTag = 1
 
@@ -29,6 +30,12 @@ stripTag = 3
 abbrev pub stripLength : ℕ
 stripLength = 10
 
+abbrev pub versionTag : ℕ
+versionTag = 4
+
+abbrev pub versionLength : ℕ
+versionLength = 1
+
 -- tag and length
 abbrev pub headLength : ℕ
 headLength = 3
@@ -42,6 +49,9 @@ stripSize = headLength + stripLength
 
 abbrev pub stepSize : ℕ
 stepSize = headLength + stepLength
+
+abbrev pub versionSize : ℕ
+versionSize = headLength + versionLength
 
 -- a two-byte number, least byte first, and the number of two bytes
 abbrev pub low : ℕ → ℕ
@@ -90,6 +100,11 @@ stepField s =
     stepTag ∷ low stepLength ∷ high stepLength
     ∷ flagsOf s ∷ low (s .begin) ∷ high (s .begin) ∷ low (s .number) ∷ high (s .number) ∷ []
 
+-- A.11: "The record says the version in tag 4, length 1, value 2 .. the writer omits it for version 1"
+unfoldable pub versionField : ℕ → List ℕ
+versionField version =
+    cond (eqb version houseVersion) (versionTag ∷ low versionLength ∷ high versionLength ∷ houseVersion ∷ []) []
+
 -- fields one after the other
 abbrev pub joined {ℓ} : {A : Type ℓ} → (A → List ℕ) → List A → List ℕ
 joined field [] = []
@@ -102,12 +117,16 @@ abbrev pub stepFields : List Step → List ℕ
 stepFields ss = joined stepField ss
 
 -- "Channels stand before steps."
-unfoldable pub recordOf : List Channel → List Step → List ℕ
-recordOf cs ss = channelFields cs ++ stepFields ss
+unfoldable pub listFields : List Channel → List Step → List ℕ
+listFields cs ss = channelFields cs ++ stepFields ss
 
--- the most bytes that a record can have: 256 channels, all of them strips, and 64 steps
+-- the version stands "as its first field"
+unfoldable pub recordOf : ℕ → List Channel → List Step → List ℕ
+recordOf version cs ss = versionField version ++ listFields cs ss
+
+-- the most bytes that a record can have: a version, 256 channels, all of them strips, and 64 steps
 abbrev pub recordRoom : ℕ
-recordRoom = stripSize * maxChannels + stepSize * maxSteps
+recordRoom = versionSize + stripSize * maxChannels + stepSize * maxSteps
 
 -- a slice with bytes put into it from `at` on, and the same where it has room for them
 abbrev pub placed : List ℕ → ℕ → List ℕ → List ℕ

@@ -1,4 +1,4 @@
--- Reading a record's form (document 01, "The questions" 1 to 4; document 02, A.8): "In a record, questions 1 to 4 are put field by field", each in its order; "a
+-- Reading a record's form (document 01, "The questions" 1 to 4; document 02, A.8 and A.11): "In a record, questions 1 to 4 are put field by field", each in its order; "a
 -- field too many is met at that field, a missing channel at the end". Definitions only.
 use mathlib.Core.Bool.{Bool, cond, _&&_, _||_, not}
 use mathlib.Core.List.{List, [], _∷_, _++_}
@@ -12,17 +12,19 @@ use Rattle.list.specs.declared.Step.{Step}
 use Rattle.list.specs.Tables.{all}
 use Rattle.list.specs.Lists.{maxChannels, maxSteps}
 use Rattle.list.specs.Questions.{ask}
+use Rattle.plan.specs.Version.{standardVersion, houseVersion}
 use Rattle.plan.specs.Steps.{flagsAllowed}
-use Rattle.record.specs.Bytes.{channelTag, channelLength, stripTag, stripLength, stepTag, stepLength, headLength, word, long, isStrip}
+use Rattle.record.specs.Bytes.{channelTag, channelLength, stripTag, stripLength, stepTag, stepLength, versionTag, versionLength, versionSize, headLength, word, long, isStrip}
 
--- what reading the form comes to: 0 with the channels and the steps, or a refusal's number
+-- what reading the form comes to: 0 with the version, the channels and the steps, or a refusal's number
 pub record Form : Type 0 where
   pub answer : ℕ
+  pub version : ℕ
   pub channels : List Channel
   pub steps : List Step
 
 abbrev pub refused : ℕ → Form
-refused number = record { answer = number; channels = []; steps = [] }
+refused number = record { answer = number; version = 0; channels = []; steps = [] }
 
 -- a question of a form: the refusal's number where the answer is "no"
 abbrev pub asked : Bool → ℕ → Form → Form
@@ -119,24 +121,42 @@ judgeField bytes channels metas steps =
     (ask (isChannel bytes steps || isStep bytes) refusedField
     (cond (isStep bytes) (judgeStepField bytes steps) (judgeChannelField bytes channels metas)))
 
--- ---- the fields
+-- ---- the fields of a list and its steps; the version is the record's
 -- at the end: 3. "Are there 1 .. channels"
-abbrev pub finished : List Channel → List Step → Form
-finished cs ss = asked (leb 1 (length cs)) refusedCount (record { answer = 0; channels = cs; steps = ss })
+abbrev pub finished : ℕ → List Channel → List Step → Form
+finished version cs ss = asked (leb 1 (length cs)) refusedCount (record { answer = 0; version = version; channels = cs; steps = ss })
 
 -- the first field's answer, after the channels cs and the steps ss
 abbrev pub answerOf : List ℕ → List Channel → List Step → ℕ
 answerOf bytes cs ss = judgeField bytes (length cs) (all isMeta cs) (length ss)
 
 -- the fields of a record after the channels cs and the steps ss; a field has at least three bytes, so as many turns as bytes are enough
-abbrev pub readFields : ℕ → List ℕ → List Channel → List Step → Form
-readFields zero bytes cs ss = finished cs ss
-readFields (suc turns) bytes cs ss =
-    cond (eqb (length bytes) 0) (finished cs ss)
+abbrev pub readFields : ℕ → ℕ → List ℕ → List Channel → List Step → Form
+readFields version zero bytes cs ss = finished version cs ss
+readFields version (suc turns) bytes cs ss =
+    cond (eqb (length bytes) 0) (finished version cs ss)
     (asked (eqb (answerOf bytes cs ss) 0) (answerOf bytes cs ss)
     (cond (isStep bytes)
-    (readFields turns (drop (fieldSize bytes) bytes) cs (ss ++ (fieldStep bytes ∷ [])))
-    (readFields turns (drop (fieldSize bytes) bytes) (cs ++ (fieldChannel bytes ∷ [])) ss)))
+    (readFields version turns (drop (fieldSize bytes) bytes) cs (ss ++ (fieldStep bytes ∷ [])))
+    (readFields version turns (drop (fieldSize bytes) bytes) (cs ++ (fieldChannel bytes ∷ [])) ss)))
 
+unfoldable pub fieldsOf : ℕ → List ℕ → Form
+fieldsOf version bytes = readFields version (length bytes) bytes [] []
+
+-- ---- A.11: "The record says the version in tag 4, length 1, value 2, once and as its first field"
+abbrev pub hasVersionTag : List ℕ → Bool
+hasVersionTag bytes = eqb (tagOf bytes) versionTag
+
+-- 1, 2 and 4 of that field; "tag 4 with value 1 is refused with 4, as is any other value"
+unfoldable pub judgeVersionField : List ℕ → ℕ
+judgeVersionField bytes =
+    ask (fieldInside bytes) refusedOutside
+    (ask (hasHead versionTag versionLength bytes) refusedField
+    (ask (eqb (byteAt bytes headLength) houseVersion) refusedForm 0))
+
+-- a record with that field, and one without; "Tag 4 later in the record" is a tag that no field there has, "refused with 2"
 unfoldable pub formOf : List ℕ → Form
-formOf bytes = readFields (length bytes) bytes [] []
+formOf bytes =
+    cond (hasVersionTag bytes)
+    (asked (eqb (judgeVersionField bytes) 0) (judgeVersionField bytes) (fieldsOf houseVersion (drop versionSize bytes)))
+    (fieldsOf standardVersion bytes)

@@ -1,5 +1,5 @@
-// The record (document 01, "Record"): a channel list and its steps as bytes,
-// read field by field and written. Total: every byte string is judged, by
+// The record (document 01, "Record"): a plan version, a channel list and its
+// steps as bytes, read field by field and written. Total: every byte string is judged, by
 // questions 1 to 11 in their order; the writer puts 3 to 11 and 14.
 ghost use mathlib.Core.Path.{_≡_};
 ghost use Prim.Native.Nat.{_+_, _≤_, _<_};
@@ -23,9 +23,11 @@ use numbers::REFUSED_LENGTH;
 use numbers::REFUSED_OUTSIDE;
 use plan::Steps;
 
-// The answer 0 with a list and its steps, or a refusal's number with neither.
+// The answer 0 with a plan version, a list and its steps, or a refusal's number
+// with none of them.
 pub struct Record {
     pub answer: u32,
+    pub version: u32,
     pub list: ChannelList,
     pub steps: Steps,
 }
@@ -51,6 +53,13 @@ const STEP_TAG: u8 = 2;
 
 const STEP_LENGTH: u16 = 5;
 
+// A.11: "The record says the version in tag 4, length 1, value 2".
+const VERSION_TAG: u8 = 4;
+
+const VERSION_LENGTH: u16 = 1;
+
+const VERSION_VALUE: u8 = Steps::HOUSE_VERSION as u8;
+
 // The bytes of a field before its body.
 const HEAD_LENGTH: usize = 3;
 
@@ -59,6 +68,8 @@ const CHANNEL_SIZE: usize = HEAD_LENGTH + CHANNEL_LENGTH as usize;
 const STRIP_SIZE: usize = HEAD_LENGTH + STRIP_LENGTH as usize;
 
 const STEP_SIZE: usize = HEAD_LENGTH + STEP_LENGTH as usize;
+
+const VERSION_SIZE: usize = HEAD_LENGTH + VERSION_LENGTH as usize;
 
 // A two-byte number, least byte first.
 fn word(low: u8, high: u8) -> u16
@@ -238,21 +249,23 @@ fn with_step(steps: Steps, bytes: &[u8]) -> Steps
     next
 }
 
-// A refusal's number with neither list nor steps.
+// A refusal's number with neither version nor list nor steps.
 fn refused(answer: u32) -> Record
     ensures { λ r. ⌜ r ≡ Spec.packedForm (Reading.refused answer) ⌝ }
 {
     Record {
         answer,
+        version: 0,
         list: ChannelList::empty(),
         steps: Steps::empty(),
     }
 }
 
-// The list and the steps of a record, by questions 1 to 4 field by field. `metas`
-// says whether all channels so far are meta; by question 4 the last one tells.
-pub fn read_form(bytes: &[u8]) -> Record
-    ensures { λ r. ⌜ r ≡ Spec.packedForm (Reading.formOf (now (bytes .entry))) ⌝ }
+// The list and the steps of a record with the given version, by questions 1 to 4
+// field by field. `metas` says whether all channels so far are meta; by question
+// 4 the last one tells.
+fn read_fields(version: u32, bytes: &[u8]) -> Record
+    ensures { λ r. ⌜ r ≡ Spec.packedForm (Reading.fieldsOf version (now (bytes .entry))) ⌝ }
 {
     let mut list = ChannelList::empty();
     let mut steps = Steps::empty();
@@ -278,12 +291,53 @@ pub fn read_form(bytes: &[u8]) -> Record
     }
     Record {
         answer: 0,
+        version,
         list,
         steps,
     }
 }
 
-// The list and the steps of a record, by questions 1 to 11.
+// Whether the first field has the version's tag.
+fn has_version_tag(bytes: &[u8]) -> bool
+    ensures { λ r. ⌜ r ≡ Reading.hasVersionTag (now (bytes .entry)) ⌝ }
+{
+    if bytes.len() == 0 {
+        return false;
+    }
+    bytes[0] == VERSION_TAG
+}
+
+// Questions 1, 2 and 4, of the version's field.
+fn judge_version(bytes: &[u8]) -> u32
+    ensures { λ r. ⌜ r ≡ Reading.judgeVersionField (now (bytes .entry)) ⌝ }
+{
+    if !field_inside(bytes) {
+        return REFUSED_OUTSIDE;
+    }
+    if !has_head(VERSION_TAG, VERSION_LENGTH, bytes) {
+        return REFUSED_FIELD;
+    }
+    if bytes[HEAD_LENGTH] != VERSION_VALUE {
+        return REFUSED_FORM;
+    }
+    0
+}
+
+// The version, the list and the steps of a record, by questions 1 to 4.
+pub fn read_form(bytes: &[u8]) -> Record
+    ensures { λ r. ⌜ r ≡ Spec.packedForm (Reading.formOf (now (bytes .entry))) ⌝ }
+{
+    if !has_version_tag(bytes) {
+        return read_fields(Steps::STANDARD_VERSION, bytes);
+    }
+    let refusal = judge_version(bytes);
+    if refusal != 0 {
+        return refused(refusal);
+    }
+    read_fields(Steps::HOUSE_VERSION, &bytes[VERSION_SIZE..])
+}
+
+// The version, the list and the steps of a record, by questions 1 to 11.
 pub fn read_record(bytes: &[u8]) -> Record
     ensures { λ r. ⌜ r ≡ Spec.readOf (now (bytes .entry)) ⌝ }
 {
@@ -291,7 +345,7 @@ pub fn read_record(bytes: &[u8]) -> Record
     if form.answer != 0 {
         return form;
     }
-    let answer = plan::rewrite(form.list, form.steps).answer;
+    let answer = plan::rewrite(form.version, form.list, form.steps).answer;
     if answer != 0 {
         return refused(answer);
     }
@@ -421,13 +475,40 @@ fn channels_size(list: ChannelList) -> usize
     size
 }
 
-// The channels' fields, from the beginning of `out` on.
-fn write_channels(list: ChannelList, out: &mut [u8])
-    requires { ⌜ (list .count ≤ maxChannels) × (length (Bytes.channelFields (channels list)) ≤ length (now out)) ⌝ }
-    ensures { λ _. ⌜ now (out .exit) ≡ Bytes.placed (now (out .entry)) 0 (Bytes.channelFields (channels list)) ⌝ }
+// The bytes of the version's field, which version 1 has not.
+fn version_size(version: u32) -> usize
+    ensures { λ r. ⌜ r ≡ length (Bytes.versionField version) ⌝ }
+{
+    if version == Steps::HOUSE_VERSION {
+        VERSION_SIZE
+    } else {
+        0
+    }
+}
+
+// The version's field, from the beginning of `out` on.
+fn write_version(version: u32, out: &mut [u8])
+    requires { ⌜ length (Bytes.versionField version) ≤ length (now out) ⌝ }
+    ensures { λ _. ⌜ now (out .exit) ≡ Bytes.placed (now (out .entry)) 0 (Bytes.versionField version) ⌝ }
+{
+    if version == Steps::HOUSE_VERSION {
+        let field = [
+            VERSION_TAG,
+            low(VERSION_LENGTH as u32),
+            high(VERSION_LENGTH as u32),
+            VERSION_VALUE,
+        ];
+        put_bytes(&field, 0, out);
+    }
+}
+
+// The channels' fields, from `start` on.
+fn write_channels(list: ChannelList, start: usize, out: &mut [u8])
+    requires { ⌜ (list .count ≤ maxChannels) × (start + length (Bytes.channelFields (channels list)) ≤ length (now out)) ⌝ }
+    ensures { λ _. ⌜ now (out .exit) ≡ Bytes.placed (now (out .entry)) start (Bytes.channelFields (channels list)) ⌝ }
 {
     let count = list.count;
-    let mut at = 0;
+    let mut at = start;
     for k in 0..count {
         let c = entry_of(&list.widths, &list.heights, &list.hshifts, &list.vshifts, k);
         at = put_channel(c, at, out);
@@ -449,14 +530,15 @@ fn write_steps(steps: Steps, start: usize, out: &mut [u8])
 }
 
 // Questions 3 to 11 and 14, then the record; bytes past it stay.
-pub fn write_record(list: ChannelList, steps: Steps, out: &mut [u8]) -> Written
-    ensures { λ r. ⌜ (r ≡ Spec.writtenOf list steps (now (out .entry))) × (now (out .exit) ≡ Spec.writtenBytes list steps (now (out .entry))) ⌝ }
+pub fn write_record(version: u32, list: ChannelList, steps: Steps, out: &mut [u8]) -> Written
+    ensures { λ r. ⌜ (r ≡ Spec.writtenOf version list steps (now (out .entry))) × (now (out .exit) ≡ Spec.writtenBytes version list steps (now (out .entry))) ⌝ }
 {
-    let answer = plan::rewrite(list, steps).answer;
+    let answer = plan::rewrite(version, list, steps).answer;
     if answer != 0 {
         return Written { answer, length: 0 };
     }
-    let start = channels_size(list);
+    let first = version_size(version);
+    let start = first + channels_size(list);
     let length = start + STEP_SIZE * steps.count;
     if out.len() < length {
         return Written {
@@ -464,7 +546,8 @@ pub fn write_record(list: ChannelList, steps: Steps, out: &mut [u8]) -> Written
             length: 0,
         };
     }
-    write_channels(list, out);
+    write_version(version, out);
+    write_channels(list, first, out);
     write_steps(steps, start, out);
     Written { answer: 0, length }
 }

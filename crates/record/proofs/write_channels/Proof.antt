@@ -12,10 +12,10 @@ use Rattle.record.proofs.write_channels.Statement.{statement}
 use Rattle.record.proofs.write_channels.Tie as tie
 
 abbrev Inv-loop : tie.InvT-loop
-Inv-loop out₀ list count at₀ k₀ out at k = Putting channelField (channelAt list) count (channelFields (channels list)) 0 out₀ out at k
+Inv-loop start out₀ list count at₀ k₀ out at k = Putting channelField (channelAt list) count (channelFields (channels list)) start out₀ out at k
 
 abbrev μ-loop : tie.MeasureT-loop
-μ-loop out₀ list count at₀ k₀ out at k = count - k
+μ-loop start out₀ list count at₀ k₀ out at k = count - k
 
 loop-holds : tie.Need-loop-holds Inv-loop μ-loop
 loop-holds c =
@@ -41,7 +41,7 @@ put-channel-requires c κs =
     let e = c .before in
     let t = turn e in
     let q = t .before in
-    putting-room channelField (channelAt (q .before .before .args .t1)) _ _ 0 _ (omega (arith, q .before .before .pre .1))
+    putting-room channelField (channelAt (q .before .before .args .t1)) _ _ (q .before .before .args .start) _ (q .before .before .pre .1)
     _ _ _ (q .loop .inv) (t .loop-test .taken) _ (made e)
 
 add-k : tie.Need-add-k Inv-loop μ-loop
@@ -56,7 +56,7 @@ loop-again c =
     let e = p .before .before in
     let t = turn e in
     let q = t .before in
-    putting-more channelField (channelAt (q .before .before .args .t1)) _ _ 0 _ (omega (arith, q .before .before .pre .1))
+    putting-more channelField (channelAt (q .before .before .args .t1)) _ _ (q .before .before .args .start) _ (q .before .before .pre .1)
     _ _ _ (q .loop .inv) (t .loop-test .taken) _ (made e) _ _ (p .put-channel .ensures .1) (p .put-channel .ensures .0)
 
 same-length : tie.Need-same-length Inv-loop μ-loop
