@@ -13,7 +13,7 @@ use Rattle.list.specs.Lists.{channels}
 use Rattle.plan.specs.Steps.{steps}
 use Rattle.record.specs.declared.Record.{Record}
 use Rattle.record.specs.Records.{readOf}
-use Rattle.record.proofs.Readings.{read-answer, read-zero, list-back, steps-back}
+use Rattle.record.proofs.Readings.{read-answer, version-is, read-zero, list-back, steps-back}
 use Rattle.listing.specs.Text.{numbered, refusedWord}
 use Rattle.listing.specs.Listing.{recordText, listing, listAnswer, textAfter, sizeAfter, judgedBytes, printed, printedOver}
 use Rattle.listing.specs.Putting.{Put}
@@ -31,9 +31,9 @@ module _ (bytes : List ℕ) (f : Record) (e : f ≡ readOf bytes) where
   listing-refused h = rw (← read-answer bytes f e, ne-eqb (f .answer) 0 h)
 
   module _ (z : f .answer ≡ 0) where
-    pub listing-accepted : recordText (steps (f .steps)) (channels (f .list)) ≡ listing bytes
+    pub listing-accepted : recordText (f .version) (steps (f .steps)) (channels (f .list)) ≡ listing bytes
     unfolding listing
-    listing-accepted = rw (read-zero bytes f e z, list-back bytes f e z, steps-back bytes f e z)
+    listing-accepted = rw (read-zero bytes f e z, version-is bytes f e z, list-back bytes f e z, steps-back bytes f e z)
 
   -- ---- the call
   module _ (text size : List ℕ) where

@@ -14,11 +14,11 @@ use Rattle.list.specs.declared.Step.{Step}
 use Rattle.list.specs.Tables.{all}
 use Rattle.list.specs.Lists.{maxChannels, maxSteps}
 use Rattle.list.proofs.Acceptance.{allowed-both}
-use Rattle.plan.specs.Default.{stoppingSide}
+use Rattle.plan.specs.Version.{ruleOf}
 use Rattle.plan.specs.Coarse.{coarseCount}
 use Rattle.plan.proofs.Runs.{plan-accepted}
 use Rattle.record.specs.Bytes.{joined}
-use Rattle.record.specs.Records.{readAnswer, channelsOf, stepsOf, reachedOf}
+use Rattle.record.specs.Records.{readAnswer, versionOf, channelsOf, stepsOf, reachedOf}
 use Rattle.record.proofs.Readings.{channels-accepted, steps-judged, steps-few}
 use Rattle.listing.specs.Text.{space, newline, stepsWord, channelsWord, coarseWord, stepLine, channelLine, directionWord, placeWord, shiftWords, two, metaWord, numbered, decimal}
 use Rattle.listing.specs.Listing as Listing
@@ -80,17 +80,17 @@ every {ℓ} : {A : Type ℓ} (xs : List A) → all (λ _. true) xs ≡ true
 every [] = refl
 every (x ∷ xs) = every xs
 
-pub plan-room : (ss : List Step) (cs : List Channel) → length ss ≤ maxSteps → length cs ≤ maxChannels → all shiftsAllowed cs ≡ true
-    → length (planText ss cs) ≤ listingRoom
+pub plan-room : (version : ℕ) (ss : List Step) (cs : List Channel) → length ss ≤ maxSteps → length cs ≤ maxChannels → all shiftsAllowed cs ≡ true
+    → length (planText version ss cs) ≤ listingRoom
 unfolding planText
-plan-room ss cs few count allowed =
+plan-room version ss cs few count allowed =
     let s = lines-room stepLine (λ _. true) stepRoom (λ x _. step-room x) ss (every ss) in
     let c = lines-room channelLine shiftsAllowed channelRoom channel-room cs allowed in
     let sl = joined stepLine ss in
     let cl = joined channelLine cs in
     let sn = numbered stepsWord (length ss) in
     let cn = numbered channelsWord (length cs) in
-    let on = numbered coarseWord (coarseCount stoppingSide cs) in
+    let on = numbered coarseWord (coarseCount (ruleOf version .stop) cs) in
     omega (
       arith,
       length-append sn (sl ++ (cn ++ (cl ++ on))),
@@ -99,11 +99,11 @@ plan-room ss cs few count allowed =
       length-append cl on,
       numbered-room stepsWord (length ss),
       numbered-room channelsWord (length cs),
-      numbered-room coarseWord (coarseCount stoppingSide cs),
+      numbered-room coarseWord (coarseCount (ruleOf version .stop) cs),
     )
 
 pub listing-room : (bytes : List ℕ) → readAnswer bytes ≡ 0 → length (listing bytes) ≤ listingRoom
 unfolding Listing.listing
 listing-room bytes z =
     let a = plan-accepted (stepsOf bytes) (channelsOf bytes) (channels-accepted bytes z) (steps-judged bytes z) in
-    rw z (plan-room (stepsOf bytes) (reachedOf bytes) (steps-few bytes z) (a .few) (allowed-both (reachedOf bytes) (a .allowed) .0))
+    rw z (plan-room (versionOf bytes) (stepsOf bytes) (reachedOf bytes) (steps-few bytes z) (a .few) (allowed-both (reachedOf bytes) (a .allowed) .0))

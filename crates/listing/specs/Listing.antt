@@ -9,29 +9,29 @@ use Rattle.numbers.specs.Numbers.{refusedLength}
 use Rattle.channel.specs.declared.Channel.{Channel}
 use Rattle.list.specs.declared.Step.{Step}
 use Rattle.list.specs.Questions.{ask}
-use Rattle.plan.specs.Default.{stoppingSide}
+use Rattle.plan.specs.Version.{ruleOf}
 use Rattle.plan.specs.Coarse.{coarseCount}
 use Rattle.plan.specs.Plans.{meant, steppedAll}
 use Rattle.record.specs.Reading.{formOf}
-use Rattle.record.specs.Records.{readAnswer, channelsOf}
+use Rattle.record.specs.Records.{readAnswer, versionOf, channelsOf}
 use Rattle.listing.specs.Text.{stepsWord, channelsWord, coarseWord, refusedWord, numbered, stepLines, channelLines}
 
--- the lines of a plan's steps and of the list that it leaves
-unfoldable pub planText : List Step → List Channel → List ℕ
-planText ss cs =
+-- the lines of a plan's steps and of the list that it leaves; "The coarse count takes the version's side"
+unfoldable pub planText : ℕ → List Step → List Channel → List ℕ
+planText version ss cs =
     numbered stepsWord (length ss)
     ++ (stepLines ss
     ++ (numbered channelsWord (length cs)
-    ++ (channelLines cs ++ numbered coarseWord (coarseCount stoppingSide cs))))
+    ++ (channelLines cs ++ numbered coarseWord (coarseCount (ruleOf version .stop) cs))))
 
 -- those of a list and its steps, "the default plan by its steps"
-abbrev pub recordText : List Step → List Channel → List ℕ
-recordText ss cs = planText (meant ss cs) (steppedAll (meant ss cs) cs)
+abbrev pub recordText : ℕ → List Step → List Channel → List ℕ
+recordText version ss cs = planText version (meant version ss cs) (steppedAll (meant version ss cs) cs)
 
 unfoldable pub listing : List ℕ → List ℕ
 listing bytes =
     cond (eqb (readAnswer bytes) 0)
-    (recordText (formOf bytes .steps) (channelsOf bytes))
+    (recordText (versionOf bytes) (formOf bytes .steps) (channelsOf bytes))
     (numbered refusedWord (readAnswer bytes))
 
 -- ---- the call: the record's questions, then 14 of the slices for the text and, one number, for its length

@@ -1,9 +1,11 @@
 // The listing of a record (document 01, the program squeeze-list): record bytes
 // in, text bytes out. Total.
 ghost use mathlib.Core.Path.{_≡_};
+ghost use mathlib.Core.Bool.{true};
 ghost use Prim.Native.Nat.{_+_, _*_, _%_, _≤_};
 ghost use lib.ListN.{length};
 ghost use Rattle.list.specs.Lists.{maxChannels, maxSteps, channels};
+ghost use Rattle.plan.specs.Version.{isVersion};
 ghost use Rattle.plan.specs.Steps as StepsSpec;
 ghost use Rattle.plan.specs.Plans.{judgePlan};
 ghost use Rattle.listing.specs.Text as Text;
@@ -205,25 +207,30 @@ fn put_channels(list: ChannelList, at: usize, text: &mut [u8]) -> usize
 }
 
 // The lines of a plan's steps and of the list that it leaves.
-fn put_plan(steps: Steps, list: ChannelList, text: &mut [u8]) -> usize
-    requires { ⌜ (steps .count ≤ maxSteps) × (list .count ≤ maxChannels) × (Putting.listingRoom ≤ length (now text)) ⌝ }
-    ensures { λ r. ⌜ Put (Spec.planText (StepsSpec.steps steps) (channels list)) 0 (now (text .entry)) (now (text .exit)) r ⌝ }
+fn put_plan(version: u32, steps: Steps, list: ChannelList, text: &mut [u8]) -> usize
+    requires { ⌜ (isVersion version ≡ true) × (steps .count ≤ maxSteps) × (list .count ≤ maxChannels) × (Putting.listingRoom ≤ length (now text)) ⌝ }
+    ensures { λ r. ⌜ Put (Spec.planText version (StepsSpec.steps steps) (channels list)) 0 (now (text .entry)) (now (text .exit)) r ⌝ }
 {
     let end = put_numbered(b"steps ", steps.count, 0, text);
     let end = put_steps(steps, end, text);
     let end = put_numbered(b"channels ", list.count, end, text);
     let end = put_channels(list, end, text);
-    put_numbered(b"coarse ", plan::coarse_count(list), end, text)
+    put_numbered(
+        b"coarse ",
+        plan::coarse_count(version, list).count,
+        end,
+        text,
+    )
 }
 
 // The lines of a list and its steps that are accepted.
-fn put_record(list: ChannelList, steps: Steps, text: &mut [u8]) -> usize
-    requires { ⌜ (judgePlan list steps ≡ 0) × (Putting.listingRoom ≤ length (now text)) ⌝ }
-    ensures { λ r. ⌜ Put (Spec.recordText (StepsSpec.steps steps) (channels list)) 0 (now (text .entry)) (now (text .exit)) r ⌝ }
+fn put_record(version: u32, list: ChannelList, steps: Steps, text: &mut [u8]) -> usize
+    requires { ⌜ (judgePlan version list steps ≡ 0) × (Putting.listingRoom ≤ length (now text)) ⌝ }
+    ensures { λ r. ⌜ Put (Spec.recordText version (StepsSpec.steps steps) (channels list)) 0 (now (text .entry)) (now (text .exit)) r ⌝ }
 {
-    let reached = plan::rewrite(list, steps).list;
-    let meant = plan::meant_steps(list, steps).steps;
-    put_plan(meant, reached, text)
+    let reached = plan::rewrite(version, list, steps).list;
+    let meant = plan::meant_steps(version, list, steps).steps;
+    put_plan(version, meant, reached, text)
 }
 
 fn put_listing(bytes: &[u8], text: &mut [u8]) -> usize
@@ -234,7 +241,7 @@ fn put_listing(bytes: &[u8], text: &mut [u8]) -> usize
     if read.answer != 0 {
         return put_numbered(b"refused ", read.answer as usize, 0, text);
     }
-    put_record(read.list, read.steps, text)
+    put_record(read.version, read.list, read.steps, text)
 }
 
 // The listing of an accepted record over the front of `text`, and its length as
@@ -248,7 +255,7 @@ pub fn list_record(bytes: &[u8], text: &mut [u8], size: &mut [u32]) -> u32
         return read.answer;
     }
     let mut page = [0u8; LISTING_ROOM];
-    let length = put_record(read.list, read.steps, &mut page);
+    let length = put_record(read.version, read.list, read.steps, &mut page);
     if !((length <= text.len()) & (1 <= size.len())) {
         return REFUSED_LENGTH;
     }

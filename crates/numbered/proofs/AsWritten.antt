@@ -27,63 +27,63 @@ use Rattle.numbered.proofs.Judged.{map-over, numbers-plan}
 use Rattle.numbered.proofs.Outcomes.{kept, filled, written-answer, bytes-kept, record-by}
 
 pub refusal-keeps : RefusalKeeps
-refusal-keeps ns ms bytes len z =
-    let k = kept ns ms bytes len (answer ns ms bytes len) refl z in
+refusal-keeps version ns ms bytes len z =
+    let k = kept version ns ms bytes len (answer version ns ms bytes len) refl z in
     (sym (k .1), sym (k .2))
 
-module _ (ns ms bytes len : List ℕ) (wholes : (whole channelNumbers ns && whole stepNumbers ms) ≡ true) (room : 1 ≤ length len) where
-  record-is : judgeNumbers ns ms ≡ 0 → recordFor (listOf ns) (planOf ms) ≡ bytesOf ns ms
-  record-is z = record-by ns ms z (λ n. n) (map-over (stepsOf ms))
+module _ (version : ℕ) (ns ms bytes len : List ℕ) (wholes : (whole channelNumbers ns && whole stepNumbers ms) ≡ true) (room : 1 ≤ length len) where
+  record-is : judgeNumbers version ns ms ≡ 0 → recordFor version (listOf ns) (planOf ms) ≡ bytesOf version ns ms
+  record-is z = record-by version ns ms z (λ n. n) (map-over (stepsOf ms))
 
-  same-answer : writeAnswer (listOf ns) (planOf ms) bytes ≡ answer ns ms bytes len
+  same-answer : writeAnswer version (listOf ns) (planOf ms) bytes ≡ answer version ns ms bytes len
   unfolding W.writeAnswer answer slicesAllowed
   same-answer =
-      rw (numbers-plan ns ms, wholes, le-leb 1 (length len) room, and-true (leb (length (bytesOf ns ms)) (length bytes)))
-      (go (eqb (judgeNumbers ns ms) 0) refl)
+      rw (numbers-plan version ns ms, wholes, le-leb 1 (length len) room, and-true (leb (length (bytesOf version ns ms)) (length bytes)))
+      (go (eqb (judgeNumbers version ns ms) 0) refl)
     where
-      go : (t : Bool) → eqb (judgeNumbers ns ms) 0 ≡ t
-          → ask t (judgeNumbers ns ms) (ask (leb (length (recordFor (listOf ns) (planOf ms))) (length bytes)) refusedLength 0)
-          ≡ ask t (judgeNumbers ns ms) (ask (leb (length (bytesOf ns ms)) (length bytes)) refusedLength 0)
-      go true e = rw (record-is (eqb-true (judgeNumbers ns ms) 0 e))
+      go : (t : Bool) → eqb (judgeNumbers version ns ms) 0 ≡ t
+          → ask t (judgeNumbers version ns ms) (ask (leb (length (recordFor version (listOf ns) (planOf ms))) (length bytes)) refusedLength 0)
+          ≡ ask t (judgeNumbers version ns ms) (ask (leb (length (bytesOf version ns ms)) (length bytes)) refusedLength 0)
+      go true e = rw (record-is (eqb-true (judgeNumbers version ns ms) 0 e))
       go false e = refl
 
-  gave : writtenOf (listOf ns) (planOf ms) bytes .answer ≡ answer ns ms bytes len
-  gave = written-answer (listOf ns) (planOf ms) bytes ∙ same-answer
+  gave : writtenOf version (listOf ns) (planOf ms) bytes .answer ≡ answer version ns ms bytes len
+  gave = written-answer version (listOf ns) (planOf ms) bytes ∙ same-answer
 
   -- nothing is refused
-  module _ (z : answer ns ms bytes len ≡ 0) where
-    judged : judgeNumbers ns ms ≡ 0
+  module _ (z : answer version ns ms bytes len ≡ 0) where
+    judged : judgeNumbers version ns ms ≡ 0
     unfolding answer
-    judged = none-refused (judgeNumbers ns ms) _ z .0
+    judged = none-refused (judgeNumbers version ns ms) _ z .0
 
-    made : AsWritten ns ms bytes len
+    made : AsWritten version ns ms bytes len
     made =
-        let k = filled ns ms bytes len z in
+        let k = filled version ns ms bytes len z in
         let e = record-is judged in
         record {
           answered = sym gave;
-          written = sym (k .1) ∙ rw (← e) (sym (written-bytes (listOf ns) (planOf ms) bytes (same-answer ∙ z)));
-          told = sym (k .2) ∙ rw (gave ∙ z, written-length (listOf ns) (planOf ms) bytes (same-answer ∙ z), e);
+          written = sym (k .1) ∙ rw (← e) (sym (written-bytes version (listOf ns) (planOf ms) bytes (same-answer ∙ z)));
+          told = sym (k .2) ∙ rw (gave ∙ z, written-length version (listOf ns) (planOf ms) bytes (same-answer ∙ z), e);
         }
 
-  refused : (answer ns ms bytes len ≡ 0 → ⊥) → AsWritten ns ms bytes len
+  refused : (answer version ns ms bytes len ≡ 0 → ⊥) → AsWritten version ns ms bytes len
   refused n =
-      let k = refusal-keeps ns ms bytes len n in
+      let k = refusal-keeps version ns ms bytes len n in
       record {
         answered = sym gave;
-        written = k .0 ∙ sym (bytes-kept (listOf ns) (planOf ms) bytes (λ e. n (sym same-answer ∙ e)));
-        told = k .1 ∙ rw (gave, ne-eqb (answer ns ms bytes len) 0 n);
+        written = k .0 ∙ sym (bytes-kept version (listOf ns) (planOf ms) bytes (λ e. n (sym same-answer ∙ e)));
+        told = k .1 ∙ rw (gave, ne-eqb (answer version ns ms bytes len) 0 n);
       }
 
-  either : AsWritten ns ms bytes len
-  either = go (eqb (answer ns ms bytes len) 0) refl
+  either : AsWritten version ns ms bytes len
+  either = go (eqb (answer version ns ms bytes len) 0) refl
     where
-      go : (t : Bool) → eqb (answer ns ms bytes len) 0 ≡ t → AsWritten ns ms bytes len
+      go : (t : Bool) → eqb (answer version ns ms bytes len) 0 ≡ t → AsWritten version ns ms bytes len
       go true e = made (eqb-true _ 0 e)
       go false e = refused (eqb-false _ 0 e)
 
 pub as-written : AsWrittenLaw
-as-written ns ms bytes len n m room = either ns ms bytes len (rw (n, m)) room
+as-written version ns ms bytes len n m room = either version ns ms bytes len (rw (n, m)) room
 
 -- ---- the arrays of the steps
 flags-back : (ms : List ℕ) (k : ℕ) → flagsAt ms k < 4 → S.flagsOf (stepAt ms k) ≡ flagsAt ms k

@@ -11,6 +11,7 @@ use Rattle.list.specs.Lists as L
 use Rattle.list.specs.Questions as Q
 use Rattle.plan.specs.Steps as S
 use Rattle.plan.specs.Steps.{flagsAllowed}
+use Rattle.plan.specs.Version as Versions
 use Rattle.plan.specs.Default as D
 use Rattle.plan.specs.Plans as P
 use Rattle.record.specs.Bytes as B
@@ -26,20 +27,23 @@ meta = 1 ∷ 1 ∷ 255 ∷ 255 ∷ []
 abbrev step : List ℕ
 step = 3 ∷ 0 ∷ 1 ∷ []
 
--- with room for the record and its length
+-- with room for the record and its length, under version 1 and under any
 abbrev asked : List ℕ → List ℕ → ℕ
-asked ns ms = answer ns ms (replicate 20 7) (5 ∷ 6 ∷ [])
+asked ns ms = answer 1 ns ms (replicate 20 7) (5 ∷ 6 ∷ [])
+
+abbrev under : ℕ → List ℕ → List ℕ → ℕ
+under version ns ms = answer version ns ms (replicate 20 7) (5 ∷ 6 ∷ [])
 
 abbrev pub Cases : Type 0
 Cases =
     -- "01 06 00 14 00 09 00 00 00 (hex)"; bytes and numbers past it stay
-    (answer plain [] (replicate 10 7) (5 ∷ 6 ∷ []) ≡ 0)
-    × (recordAfter plain [] (replicate 10 7) (5 ∷ 6 ∷ []) ≡ 1 ∷ 6 ∷ 0 ∷ 20 ∷ 0 ∷ 9 ∷ 0 ∷ 0 ∷ 0 ∷ 7 ∷ [])
-    × (lengthAfter plain [] (replicate 10 7) (5 ∷ 6 ∷ []) ≡ 9 ∷ 6 ∷ [])
-    × (recordAfter plain step (replicate 17 7) (5 ∷ []) ≡ 1 ∷ 6 ∷ 0 ∷ 20 ∷ 0 ∷ 9 ∷ 0 ∷ 0 ∷ 0 ∷ 2 ∷ 5 ∷ 0 ∷ 3 ∷ 0 ∷ 0 ∷ 1 ∷ 0 ∷ [])
+    (answer 1 plain [] (replicate 10 7) (5 ∷ 6 ∷ []) ≡ 0)
+    × (recordAfter 1 plain [] (replicate 10 7) (5 ∷ 6 ∷ []) ≡ 1 ∷ 6 ∷ 0 ∷ 20 ∷ 0 ∷ 9 ∷ 0 ∷ 0 ∷ 0 ∷ 7 ∷ [])
+    × (lengthAfter 1 plain [] (replicate 10 7) (5 ∷ 6 ∷ []) ≡ 9 ∷ 6 ∷ [])
+    × (recordAfter 1 plain step (replicate 17 7) (5 ∷ []) ≡ 1 ∷ 6 ∷ 0 ∷ 20 ∷ 0 ∷ 9 ∷ 0 ∷ 0 ∷ 0 ∷ 2 ∷ 5 ∷ 0 ∷ 3 ∷ 0 ∷ 0 ∷ 1 ∷ 0 ∷ [])
     -- a strip has tag 3
-    × (recordAfter (65_536 ∷ 1 ∷ 0 ∷ 2 ∷ []) step (replicate 22 7) (5 ∷ []) ≡ 3 ∷ 10 ∷ 0 ∷ 0 ∷ 0 ∷ 1 ∷ 0 ∷ 1 ∷ 0 ∷ 0 ∷ 0 ∷ 0 ∷ 2 ∷ 2 ∷ 5 ∷ 0 ∷ 3 ∷ 0 ∷ 0 ∷ 1 ∷ 0 ∷ 7 ∷ [])
-    × (recordAfter (65_535 ∷ 1 ∷ 0 ∷ 2 ∷ []) step (replicate 18 7) (5 ∷ []) ≡ 1 ∷ 6 ∷ 0 ∷ 255 ∷ 255 ∷ 1 ∷ 0 ∷ 0 ∷ 2 ∷ 2 ∷ 5 ∷ 0 ∷ 3 ∷ 0 ∷ 0 ∷ 1 ∷ 0 ∷ 7 ∷ [])
+    × (recordAfter 1 (65_536 ∷ 1 ∷ 0 ∷ 2 ∷ []) step (replicate 22 7) (5 ∷ []) ≡ 3 ∷ 10 ∷ 0 ∷ 0 ∷ 0 ∷ 1 ∷ 0 ∷ 1 ∷ 0 ∷ 0 ∷ 0 ∷ 0 ∷ 2 ∷ 2 ∷ 5 ∷ 0 ∷ 3 ∷ 0 ∷ 0 ∷ 1 ∷ 0 ∷ 7 ∷ [])
+    × (recordAfter 1 (65_535 ∷ 1 ∷ 0 ∷ 2 ∷ []) step (replicate 18 7) (5 ∷ []) ≡ 1 ∷ 6 ∷ 0 ∷ 255 ∷ 255 ∷ 1 ∷ 0 ∷ 0 ∷ 2 ∷ 2 ∷ 5 ∷ 0 ∷ 3 ∷ 0 ∷ 0 ∷ 1 ∷ 0 ∷ 7 ∷ [])
     -- 3: no channel
     × (asked [] step ≡ 3)
     × (asked (20 ∷ 9 ∷ 0 ∷ []) [] ≡ 3)
@@ -63,8 +67,18 @@ Cases =
     -- 14: a remainder, and short slices
     × (asked (20 ∷ 9 ∷ 0 ∷ 0 ∷ 20 ∷ []) [] ≡ 12)
     × (asked plain (3 ∷ 0 ∷ []) ≡ 12)
-    × (answer plain [] (replicate 8 7) (5 ∷ []) ≡ 12)
-    × (answer plain [] (replicate 9 7) [] ≡ 12)
+    × (answer 1 plain [] (replicate 8 7) (5 ∷ []) ≡ 12)
+    × (answer 1 plain [] (replicate 9 7) [] ≡ 12)
+    -- A.11: version 2 has its field first, and needs its room; no other version is known, after question 3 and before 5
+    × (recordAfter 2 plain [] (replicate 14 7) (5 ∷ []) ≡ 4 ∷ 1 ∷ 0 ∷ 2 ∷ 1 ∷ 6 ∷ 0 ∷ 20 ∷ 0 ∷ 9 ∷ 0 ∷ 0 ∷ 0 ∷ 7 ∷ [])
+    × (lengthAfter 2 plain [] (replicate 14 7) (5 ∷ []) ≡ 13 ∷ [])
+    × (answer 2 plain [] (replicate 12 7) (5 ∷ []) ≡ 12)
+    × (under 0 plain [] ≡ 4)
+    × (under 3 plain step ≡ 4)
+    × (under 4_294_967_295 plain [] ≡ 4)
+    × (under 3 [] step ≡ 3)
+    × (under 3 (65_536 ∷ 65_536 ∷ 0 ∷ 0 ∷ []) [] ≡ 4)
+    × (under 3 plain (3 ∷ 65_536 ∷ 1 ∷ []) ≡ 4)
 
 -- the conditions of the laws (specs/Laws.antt) hold for a channel and a step
 abbrev pub Witness : Type 0
@@ -75,6 +89,6 @@ Witness =
     × (asked plain step ≡ 0)
 
 pub cases : Cases × Witness
-unfolding channelAt channelsOf stepAt stepsOf flagsOf bytesOf judgeNumbers slicesAllowed answer recordAfter lengthAfter C.isMeta C.shiftsAllowed C.sidesFit C.isAllowed C.samples L.raised L.stepped L.average L.residual Q.countAllowed Q.channelsAllowed Q.totalAllowed Q.judgeStep Q.rangeAllowed Q.kindsAlike Q.placeAllowed Q.hasSides Q.roomLeft Q.shiftsKept S.flagsAllowed S.flagsOf D.metaCount D.defaultSteps D.chroma D.allChannels D.rounds P.hasOther P.meant P.meantAllowed P.judgeMeant B.recordOf B.isStrip B.shortField B.stripField B.channelField B.stepField
+unfolding Versions.isVersion Versions.ruleOf channelAt channelsOf stepAt stepsOf flagsOf bytesOf judgeNumbers slicesAllowed answer recordAfter lengthAfter C.isMeta C.shiftsAllowed C.sidesFit C.isAllowed C.samples L.raised L.stepped L.average L.residual Q.countAllowed Q.channelsAllowed Q.totalAllowed Q.judgeStep Q.rangeAllowed Q.kindsAlike Q.placeAllowed Q.hasSides Q.roomLeft Q.shiftsKept S.flagsAllowed S.flagsOf D.metaCount D.defaultSteps D.chroma D.allChannels D.rounds P.hasOther P.meant P.meantAllowed P.judgeMeant B.listFields B.recordOf B.isStrip B.shortField B.stripField B.channelField B.stepField B.versionField
 cases =
-    ((refl, refl, refl, refl, refl, refl, refl, refl, refl, refl, refl, refl, refl, refl, refl, refl, refl, refl, refl, refl, refl, refl, refl, refl, refl, refl), (refl, refl, refl, refl))
+    ((refl, refl, refl, refl, refl, refl, refl, refl, refl, refl, refl, refl, refl, refl, refl, refl, refl, refl, refl, refl, refl, refl, refl, refl, refl, refl, refl, refl, refl, refl, refl, refl, refl, refl, refl), (refl, refl, refl, refl))

@@ -85,12 +85,12 @@ steps-same (s ∷ ss) cs few h =
     rw (accepted-same cs few s (b .0), steps-same ss (stepped s cs) (accepted-few cs few s (b .0)) (b .1))
 
 -- ---- the steps that are meant
-pub meant-held : (ss : List Step) (cs : List Channel) → length cs ≤ maxChannels → judgeMeant (map heldStep ss) cs ≡ judgeMeant ss cs
+pub meant-held : (version : ℕ) (ss : List Step) (cs : List Channel) → length cs ≤ maxChannels → judgeMeant version (map heldStep ss) cs ≡ judgeMeant version ss cs
 unfolding P.judgeMeant P.meantAllowed P.meant
-meant-held [] cs few = refl
-meant-held (s ∷ ss) cs few = steps-held (s ∷ ss) cs few
+meant-held version [] cs few = refl
+meant-held version (s ∷ ss) cs few = steps-held (s ∷ ss) cs few
 
-pub meant-same : (ss : List Step) (cs : List Channel) → length cs ≤ maxChannels → judgeMeant ss cs ≡ 0 → map heldStep ss ≡ ss
+pub meant-same : (version : ℕ) (ss : List Step) (cs : List Channel) → length cs ≤ maxChannels → judgeMeant version ss cs ≡ 0 → map heldStep ss ≡ ss
 unfolding P.judgeMeant P.meantAllowed P.meant
-meant-same [] cs few h = refl
-meant-same (s ∷ ss) cs few h = steps-same (s ∷ ss) cs few h
+meant-same version [] cs few h = refl
+meant-same version (s ∷ ss) cs few h = steps-same (s ∷ ss) cs few h

@@ -16,6 +16,7 @@ use Rattle.list.specs.Questions as Q
 use Rattle.list.specs.Questions.{ask, countAllowed, channelsAllowed, totalAllowed}
 use Rattle.list.proofs.Acceptance.{allowed-both}
 use Rattle.list.proofs.Asking.{passed}
+use Rattle.plan.specs.Version.{isVersion}
 use Rattle.plan.specs.Steps.{flagsAllowed}
 use Rattle.plan.specs.Plans as P
 use Rattle.plan.specs.Plans.{judgeMeant, judgePlan}
@@ -59,16 +60,16 @@ pub map-over : (ss : List Step) → map (over (λ n. n)) ss ≡ ss
 map-over [] = refl
 map-over (s ∷ ss) = ap (_∷_ s) (map-over ss)
 
-module _ (ns ms : List ℕ) where
+module _ (version : ℕ) (ns ms : List ℕ) where
   abbrev counts : Bool
   counts = countAllowed (groups channelNumbers ns) && leb (groups stepNumbers ms) maxSteps
 
   -- question 3
-  pub numbers-refused₃ : counts ≡ false → 3 ≡ judgeNumbers ns ms
+  pub numbers-refused₃ : counts ≡ false → 3 ≡ judgeNumbers version ns ms
   unfolding judgeNumbers
   numbers-refused₃ e = rw e
 
-  plan-refused₃ : (f : ℕ → ℕ) → counts ≡ false → judgePlan (listOf ns) (planBy f ms) ≡ 3
+  plan-refused₃ : (f : ℕ → ℕ) → counts ≡ false → judgePlan version (listOf ns) (planBy f ms) ≡ 3
   unfolding P.judgePlan P.judgeForm
   plan-refused₃ f e = rw (list-count ns, plan-count f ms, e)
 
@@ -81,34 +82,34 @@ module _ (ns ms : List ℕ) where
         (leb-true _ _ (n .1), leb-true _ _ (b .1))
 
     -- questions 4 to 11, of the flat arrays
-    plan-asked : (f : ℕ → ℕ) → judgePlan (listOf ns) (planBy f ms)
-        ≡ ask (channelsAllowed (channelsOf ns) && all flagsAllowed (flagsOf ms)) 4
-        (ask (totalAllowed (channelsOf ns)) 5 (judgeMeant (map (over f) (stepsOf ms)) (channelsOf ns)))
+    plan-asked : (f : ℕ → ℕ) → judgePlan version (listOf ns) (planBy f ms)
+        ≡ ask (channelsAllowed (channelsOf ns) && (all flagsAllowed (flagsOf ms) && isVersion version)) 4
+        (ask (totalAllowed (channelsOf ns)) 5 (judgeMeant version (map (over f) (stepsOf ms)) (channelsOf ns)))
     unfolding P.judgePlan P.judgeForm
     plan-asked f =
         rw (list-channels ns (few .0), plan-flags f ms (few .1), plan-steps f ms (few .1), list-count ns, plan-count f ms, e₃)
-        (form-then true (channelsAllowed (channelsOf ns) && all flagsAllowed (flagsOf ms)) (totalAllowed (channelsOf ns)) _)
+        (form-then true (channelsAllowed (channelsOf ns) && (all flagsAllowed (flagsOf ms) && isVersion version)) (totalAllowed (channelsOf ns)) _)
 
-    numbers-asked : judgeNumbers ns ms
-        ≡ ask (channelsAllowed (channelsOf ns) && all flagsAllowed (flagsOf ms)) 4
-        (ask (totalAllowed (channelsOf ns)) 5 (judgeMeant (stepsOf ms) (channelsOf ns)))
+    numbers-asked : judgeNumbers version ns ms
+        ≡ ask (channelsAllowed (channelsOf ns) && (all flagsAllowed (flagsOf ms) && isVersion version)) 4
+        (ask (totalAllowed (channelsOf ns)) 5 (judgeMeant version (stepsOf ms) (channelsOf ns)))
     unfolding judgeNumbers
     numbers-asked = rw e₃
 
     -- a number that no field holds, or flags above 3
-    numbers-refused₄ : (all shiftsFit (channelsOf ns) && all flagsAllowed (flagsOf ms)) ≡ false → 4 ≡ judgeNumbers ns ms
+    numbers-refused₄ : (all shiftsFit (channelsOf ns) && all flagsAllowed (flagsOf ms)) ≡ false → 4 ≡ judgeNumbers version ns ms
     unfolding judgeNumbers
     numbers-refused₄ e = rw e₃ (go (channelsAllowed (channelsOf ns)) (all flagsAllowed (flagsOf ms)) refl refl)
       where
         go : (a f : Bool) → channelsAllowed (channelsOf ns) ≡ a → all flagsAllowed (flagsOf ms) ≡ f
-            → 4 ≡ ask (a && f) 4 (ask (totalAllowed (channelsOf ns)) 5 (judgeMeant (stepsOf ms) (channelsOf ns)))
+            → 4 ≡ ask (a && (f && isVersion version)) 4 (ask (totalAllowed (channelsOf ns)) 5 (judgeMeant version (stepsOf ms) (channelsOf ns)))
         go true true ea ef = absurd (true≢false (rw (all-fit (channelsOf ns) ea, ef) at e))
         go true false ea ef = refl
         go false f ea ef = refl
 
     -- x and y are what the code found of the two
     module _ (x y : Bool) (ex : x ≡ all shiftsFit (channelsOf ns)) (ey : y ≡ all flagsAllowed (flagsOf ms)) where
-      pub numbers-misfit : not (x && y) ≡ true → 4 ≡ judgeNumbers ns ms
+      pub numbers-misfit : not (x && y) ≡ true → 4 ≡ judgeNumbers version ns ms
       numbers-misfit h = numbers-refused₄ (sym (λ i. ex i && ey i) ∙ not-true (x && y) h)
 
       pub numbers-fit : not (x && y) ≡ false → ListFits ns × StepsFit ms
@@ -117,38 +118,39 @@ module _ (ns ms : List ℕ) where
           ((few .0, b .0), (few .1, b .1))
 
     -- the steps held
-    pub numbers-held : ListFits ns → judgePlan (listOf ns) (planBy held ms) ≡ judgeNumbers ns ms
+    pub numbers-held : ListFits ns → judgePlan version (listOf ns) (planBy held ms) ≡ judgeNumbers version ns ms
     numbers-held h =
         plan-asked held
-        ∙ rw (meant-held (stepsOf ms) (channelsOf ns) (omega (arith, channels-count ns, h .0)))
+        ∙ rw (meant-held version (stepsOf ms) (channelsOf ns) (omega (arith, channels-count ns, h .0)))
         (sym numbers-asked)
 
   -- the steps as they are
-  pub numbers-plan : judgePlan (listOf ns) (planOf ms) ≡ judgeNumbers ns ms
+  pub numbers-plan : judgePlan version (listOf ns) (planOf ms) ≡ judgeNumbers version ns ms
   numbers-plan = go counts refl
     where
-      go : (b : Bool) → counts ≡ b → judgePlan (listOf ns) (planOf ms) ≡ judgeNumbers ns ms
+      go : (b : Bool) → counts ≡ b → judgePlan version (listOf ns) (planOf ms) ≡ judgeNumbers version ns ms
       go true e = plan-asked e (λ n. n) ∙ rw (map-over (stepsOf ms)) (sym (numbers-asked e))
       go false e = plan-refused₃ (λ n. n) e ∙ numbers-refused₃ e
 
 -- what no refusal says
-pub record Accepted (ns ms : List ℕ) : Type 0 where
-  pub counted : counts ns ms ≡ true
+pub record Accepted (version : ℕ) (ns ms : List ℕ) : Type 0 where
+  pub counted : counts version ns ms ≡ true
   pub list : ListFits ns
   pub steps : StepsFit ms
-  pub meant : judgeMeant (stepsOf ms) (channelsOf ns) ≡ 0
+  pub meant : judgeMeant version (stepsOf ms) (channelsOf ns) ≡ 0
 
-pub accepted : (ns ms : List ℕ) → judgeNumbers ns ms ≡ 0 → Accepted ns ms
+pub accepted : (version : ℕ) (ns ms : List ℕ) → judgeNumbers version ns ms ≡ 0 → Accepted version ns ms
 unfolding judgeNumbers
-accepted ns ms h =
-    let p₃ = passed (counts ns ms) _ _ h in
-    let p₄ = passed (channelsAllowed (channelsOf ns) && all flagsAllowed (flagsOf ms)) _ _ (p₃ .1) in
+accepted version ns ms h =
+    let p₃ = passed (counts version ns ms) _ _ h in
+    let p₄ = passed (channelsAllowed (channelsOf ns) && (all flagsAllowed (flagsOf ms) && isVersion version)) _ _ (p₃ .1) in
     let p₅ = passed (totalAllowed (channelsOf ns)) _ _ (p₄ .1) in
-    let b = and-eq-true-iff (channelsAllowed (channelsOf ns)) (all flagsAllowed (flagsOf ms)) .0 (p₄ .0) in
-    let n = few ns ms (p₃ .0) in
+    let b = and-eq-true-iff (channelsAllowed (channelsOf ns)) (all flagsAllowed (flagsOf ms) && isVersion version) .0 (p₄ .0) in
+    let d = and-eq-true-iff (all flagsAllowed (flagsOf ms)) (isVersion version) .0 (b .1) in
+    let n = few version ns ms (p₃ .0) in
     record {
       counted = p₃ .0;
       list = (n .0, all-fit (channelsOf ns) (b .0));
-      steps = (n .1, b .1);
+      steps = (n .1, d .0);
       meant = p₅ .1;
     }

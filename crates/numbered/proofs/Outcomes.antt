@@ -27,32 +27,32 @@ use Rattle.numbered.proofs.Holding.{meant-same}
 use Rattle.numbered.proofs.Judged.{Accepted, accepted, numbers-held}
 
 -- ---- by the answer
-abbrev pub Results : List ℕ → List ℕ → List ℕ → List ℕ → ℕ → List ℕ → List ℕ → Type 0
-Results ns ms bytes len a out n = (a ≡ answer ns ms bytes len) × (out ≡ recordAfter ns ms bytes len) × (n ≡ lengthAfter ns ms bytes len)
+abbrev pub Results : ℕ → List ℕ → List ℕ → List ℕ → List ℕ → ℕ → List ℕ → List ℕ → Type 0
+Results version ns ms bytes len a out n = (a ≡ answer version ns ms bytes len) × (out ≡ recordAfter version ns ms bytes len) × (n ≡ lengthAfter version ns ms bytes len)
 
-module _ (ns ms bytes len : List ℕ) where
-  pub kept : (a : ℕ) → answer ns ms bytes len ≡ a → (a ≡ 0 → ⊥) → Results ns ms bytes len a bytes len
+module _ (version : ℕ) (ns ms bytes len : List ℕ) where
+  pub kept : (a : ℕ) → answer version ns ms bytes len ≡ a → (a ≡ 0 → ⊥) → Results version ns ms bytes len a bytes len
   unfolding recordAfter lengthAfter
   kept a e z = (sym e, rw (e, ne-eqb a 0 z), rw (e, ne-eqb a 0 z))
 
-  pub filled : answer ns ms bytes len ≡ 0
-      → Results ns ms bytes len 0 (bytesOf ns ms ++ drop (length (bytesOf ns ms)) bytes) (length (bytesOf ns ms) ∷ drop 1 len)
+  pub filled : answer version ns ms bytes len ≡ 0
+      → Results version ns ms bytes len 0 (bytesOf version ns ms ++ drop (length (bytesOf version ns ms)) bytes) (length (bytesOf version ns ms) ∷ drop 1 len)
   unfolding recordAfter lengthAfter
   filled e = (sym e, rw e, rw e)
 
 -- ---- the record's writer
-pub written-answer : (l : ChannelList) (s : Steps) (out : List ℕ) → writtenOf l s out .answer ≡ writeAnswer l s out
+pub written-answer : (version : ℕ) (l : ChannelList) (s : Steps) (out : List ℕ) → writtenOf version l s out .answer ≡ writeAnswer version l s out
 unfolding W.writtenOf
-written-answer l s out = go (eqb (writeAnswer l s out) 0) refl
+written-answer version l s out = go (eqb (writeAnswer version l s out) 0) refl
   where
-    go : (t : Bool) → eqb (writeAnswer l s out) 0 ≡ t
-        → cond {A = Written} t (record { answer = 0; length = length (recordFor l s) }) (record { answer = writeAnswer l s out; length = 0 }) .answer ≡ writeAnswer l s out
-    go true e = sym (eqb-true (writeAnswer l s out) 0 e)
+    go : (t : Bool) → eqb (writeAnswer version l s out) 0 ≡ t
+        → cond {A = Written} t (record { answer = 0; length = length (recordFor version l s) }) (record { answer = writeAnswer version l s out; length = 0 }) .answer ≡ writeAnswer version l s out
+    go true e = sym (eqb-true (writeAnswer version l s out) 0 e)
     go false e = refl
 
-pub bytes-kept : (l : ChannelList) (s : Steps) (out : List ℕ) → (writeAnswer l s out ≡ 0 → ⊥) → writtenBytes l s out ≡ out
+pub bytes-kept : (version : ℕ) (l : ChannelList) (s : Steps) (out : List ℕ) → (writeAnswer version l s out ≡ 0 → ⊥) → writtenBytes version l s out ≡ out
 unfolding W.writtenBytes
-bytes-kept l s out z = rw (ne-eqb (writeAnswer l s out) 0 z)
+bytes-kept version l s out z = rw (ne-eqb (writeAnswer version l s out) 0 z)
 
 -- no remainder, and a number for the length
 abbrev slices : List ℕ → List ℕ → List ℕ → Bool
@@ -70,43 +70,43 @@ first-set [] n h = absurd (omega arith)
 first-set (x ∷ len) n h = refl
 
 -- numbers that questions 3 to 11 accept
-module _ (ns ms : List ℕ) (z : judgeNumbers ns ms ≡ 0) where
-  is : Accepted ns ms
-  is = accepted ns ms z
+module _ (version : ℕ) (ns ms : List ℕ) (z : judgeNumbers version ns ms ≡ 0) where
+  is : Accepted version ns ms
+  is = accepted version ns ms z
 
   -- the arrays' record is that of the numbers, where f keeps the steps
-  pub record-by : (f : ℕ → ℕ) → map (over f) (stepsOf ms) ≡ stepsOf ms → recordFor (listOf ns) (planBy f ms) ≡ bytesOf ns ms
+  pub record-by : (f : ℕ → ℕ) → map (over f) (stepsOf ms) ≡ stepsOf ms → recordFor version (listOf ns) (planBy f ms) ≡ bytesOf version ns ms
   unfolding bytesOf
   record-by f e = rw (list-channels ns (is .list .0), plan-steps f ms (is .steps .0), e)
 
-  record-is : recordFor (listOf ns) (planBy held ms) ≡ bytesOf ns ms
-  record-is = record-by held (meant-same (stepsOf ms) (channelsOf ns) (omega (arith, channels-count ns, is .list .0)) (is .meant))
+  record-is : recordFor version (listOf ns) (planBy held ms) ≡ bytesOf version ns ms
+  record-is = record-by held (meant-same version (stepsOf ms) (channelsOf ns) (omega (arith, channels-count ns, is .list .0)) (is .meant))
 
-  bytes-few : length (bytesOf ns ms) ≤ recordRoom
+  bytes-few : length (bytesOf version ns ms) ≤ recordRoom
   unfolding bytesOf
   bytes-few =
-      record-most (channelsOf ns) (stepsOf ms) (omega (arith, channels-count ns, is .list .0)) (omega (arith, steps-count ms, is .steps .0))
+      record-most version (channelsOf ns) (stepsOf ms) (omega (arith, channels-count ns, is .list .0)) (omega (arith, steps-count ms, is .steps .0))
 
-  write-asked : (bytes : List ℕ) → writeAnswer (listOf ns) (planBy held ms) bytes ≡ ask (leb (length (bytesOf ns ms)) (length bytes)) refusedLength 0
+  write-asked : (bytes : List ℕ) → writeAnswer version (listOf ns) (planBy held ms) bytes ≡ ask (leb (length (bytesOf version ns ms)) (length bytes)) refusedLength 0
   unfolding W.writeAnswer
-  write-asked bytes = rw (numbers-held ns ms (is .counted) (is .list), z, record-is)
+  write-asked bytes = rw (numbers-held version ns ms (is .counted) (is .list), z, record-is)
 
 -- ---- by the code's answers: a to questions 3 to 11
-module _ (ns ms bytes len : List ℕ) (a : ℕ) (ea : a ≡ judgeNumbers ns ms) where
-  pub numbers-refused : (a ≡ 0 → ⊥) → Results ns ms bytes len a bytes len
+module _ (version : ℕ) (ns ms bytes len : List ℕ) (a : ℕ) (ea : a ≡ judgeNumbers version ns ms) where
+  pub numbers-refused : (a ≡ 0 → ⊥) → Results version ns ms bytes len a bytes len
   unfolding answer
-  numbers-refused n = kept ns ms bytes len a (rw (← ea, ne-eqb a 0 n)) n
+  numbers-refused n = kept version ns ms bytes len a (rw (← ea, ne-eqb a 0 n)) n
 
   module _ (z : a ≡ 0) where
-    asked : answer ns ms bytes len ≡ ask (slicesAllowed ns ms bytes len) refusedLength 0
+    asked : answer version ns ms bytes len ≡ ask (slicesAllowed version ns ms bytes len) refusedLength 0
     unfolding answer
     asked = rw (← ea, z)
 
-    pub slices-refused : not (slices ns ms len) ≡ true → Results ns ms bytes len refusedLength bytes len
+    pub slices-refused : not (slices ns ms len) ≡ true → Results version ns ms bytes len refusedLength bytes len
     unfolding slicesAllowed
     slices-refused h =
-        kept ns ms bytes len refusedLength
-        (asked ∙ go (whole channelNumbers ns && whole stepNumbers ms) (leb 1 (length len)) (leb (length (bytesOf ns ms)) (length bytes)) (not-true (slices ns ms len) h))
+        kept version ns ms bytes len refusedLength
+        (asked ∙ go (whole channelNumbers ns && whole stepNumbers ms) (leb 1 (length len)) (leb (length (bytesOf version ns ms)) (length bytes)) (not-true (slices ns ms len) h))
         (λ e. omega arith)
       where
         go : (x y b : Bool) → (x && y) ≡ false → ask (x && (b && y)) refusedLength 0 ≡ refusedLength
@@ -116,41 +116,41 @@ module _ (ns ms bytes len : List ℕ) (a : ℕ) (ea : a ≡ judgeNumbers ns ms) 
 
     -- w and out are what the record's writer gave
     module _ (h : not (slices ns ms len) ≡ false) (l : ChannelList) (s : Steps) (el : l ≡ listOf ns) (es : s ≡ planBy held ms) (w : Written) (out : List ℕ)
-        (ew : w ≡ writtenOf l s bytes) (eo : out ≡ writtenBytes l s bytes) where
-      gave : w ≡ writtenOf (listOf ns) (planBy held ms) bytes
+        (ew : w ≡ writtenOf version l s bytes) (eo : out ≡ writtenBytes version l s bytes) where
+      gave : w ≡ writtenOf version (listOf ns) (planBy held ms) bytes
       gave = ew ∙ rw (el, es)
 
-      left : out ≡ writtenBytes (listOf ns) (planBy held ms) bytes
+      left : out ≡ writtenBytes version (listOf ns) (planBy held ms) bytes
       left = eo ∙ rw (el, es)
 
-      writer-answer : writeAnswer (listOf ns) (planBy held ms) bytes ≡ w .answer
-      writer-answer = sym (ap (λ (x : Written). x .answer) gave ∙ written-answer (listOf ns) (planBy held ms) bytes)
+      writer-answer : writeAnswer version (listOf ns) (planBy held ms) bytes ≡ w .answer
+      writer-answer = sym (ap (λ (x : Written). x .answer) gave ∙ written-answer version (listOf ns) (planBy held ms) bytes)
 
-      same-answer : answer ns ms bytes len ≡ w .answer
+      same-answer : answer version ns ms bytes len ≡ w .answer
       unfolding slicesAllowed
       same-answer =
           asked
-          ∙ rw (parts ns ms len h .0, parts ns ms len h .1, and-true (leb (length (bytesOf ns ms)) (length bytes))) (sym (write-asked ns ms (sym ea ∙ z) bytes) ∙ writer-answer)
+          ∙ rw (parts ns ms len h .0, parts ns ms len h .1, and-true (leb (length (bytesOf version ns ms)) (length bytes))) (sym (write-asked version ns ms (sym ea ∙ z) bytes) ∙ writer-answer)
 
-      pub writing-refused : (w .answer ≡ 0 → ⊥) → Results ns ms bytes len (w .answer) out len
+      pub writing-refused : (w .answer ≡ 0 → ⊥) → Results version ns ms bytes len (w .answer) out len
       writing-refused n =
-          let e : out ≡ bytes = left ∙ bytes-kept (listOf ns) (planBy held ms) bytes (λ q. n (sym writer-answer ∙ q)) in
-          rw e (kept ns ms bytes len (w .answer) same-answer n)
+          let e : out ≡ bytes = left ∙ bytes-kept version (listOf ns) (planBy held ms) bytes (λ q. n (sym writer-answer ∙ q)) in
+          rw e (kept version ns ms bytes len (w .answer) same-answer n)
 
       module _ (ok : w .answer ≡ 0) where
-        writes : writeAnswer (listOf ns) (planBy held ms) bytes ≡ 0
+        writes : writeAnswer version (listOf ns) (planBy held ms) bytes ≡ 0
         writes = writer-answer ∙ ok
 
-        length-is : w .length ≡ length (bytesOf ns ms)
+        length-is : w .length ≡ length (bytesOf version ns ms)
         length-is =
-            ap (λ (x : Written). x .length) (gave ∙ written-length (listOf ns) (planBy held ms) bytes writes)
-            ∙ ap length (record-is ns ms (sym ea ∙ z))
+            ap (λ (x : Written). x .length) (gave ∙ written-length version (listOf ns) (planBy held ms) bytes writes)
+            ∙ ap length (record-is version ns ms (sym ea ∙ z))
 
-        out-is : out ≡ bytesOf ns ms ++ drop (length (bytesOf ns ms)) bytes
-        out-is = left ∙ rw (← record-is ns ms (sym ea ∙ z)) (written-bytes (listOf ns) (planBy held ms) bytes writes)
+        out-is : out ≡ bytesOf version ns ms ++ drop (length (bytesOf version ns ms)) bytes
+        out-is = left ∙ rw (← record-is version ns ms (sym ea ∙ z)) (written-bytes version (listOf ns) (planBy held ms) bytes writes)
 
         pub length-few : w .length ≤ recordRoom
-        length-few = omega (arith, length-is, bytes-few ns ms (sym ea ∙ z))
+        length-few = omega (arith, length-is, bytes-few version ns ms (sym ea ∙ z))
 
-        pub writing-done : Results ns ms bytes len 0 out (set len 0 (w .length))
-        writing-done = rw (out-is, length-is, first-set len (length (bytesOf ns ms)) (length-room ns ms len h)) (filled ns ms bytes len (same-answer ∙ ok))
+        pub writing-done : Results version ns ms bytes len 0 out (set len 0 (w .length))
+        writing-done = rw (out-is, length-is, first-set len (length (bytesOf version ns ms)) (length-room ns ms len h)) (filled version ns ms bytes len (same-answer ∙ ok))

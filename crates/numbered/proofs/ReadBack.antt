@@ -1,4 +1,4 @@
--- A record from numbers reads as the channels and the steps of the numbers (specs/Laws.antt): it is the record of their flat arrays, which crate
+-- A record from numbers reads as the version, the channels and the steps of the numbers (specs/Laws.antt): it is the record of their flat arrays, which crate
 -- record reads back. Assumes nothing.
 use mathlib.Core.Path.{_≡_, ap, _∙_}
 use mathlib.Core.List.{List}
@@ -18,28 +18,28 @@ use Rattle.numbered.proofs.Judged.{Accepted, accepted, map-over, number
 use Rattle.numbered.proofs.Outcomes.{filled, record-by}
 
 -- ---- a record that was made
-module _ (ns ms bytes len : List ℕ) (z : answer ns ms bytes len ≡ 0) where
-  judged : judgeNumbers ns ms ≡ 0
+module _ (version : ℕ) (ns ms bytes len : List ℕ) (z : answer version ns ms bytes len ≡ 0) where
+  judged : judgeNumbers version ns ms ≡ 0
   unfolding answer
-  judged = none-refused (judgeNumbers ns ms) _ z .0
+  judged = none-refused (judgeNumbers version ns ms) _ z .0
 
-  is : Accepted ns ms
-  is = accepted ns ms judged
+  is : Accepted version ns ms
+  is = accepted version ns ms judged
 
-  front : take (getD (lengthAfter ns ms bytes len) 0 0) (recordAfter ns ms bytes len) ≡ bytesOf ns ms
+  front : take (getD (lengthAfter version ns ms bytes len) 0 0) (recordAfter version ns ms bytes len) ≡ bytesOf version ns ms
   front =
-      let k = filled ns ms bytes len z in
-      rw (← (k .1), ← (k .2)) (take-append-seam (bytesOf ns ms) (drop (length (bytesOf ns ms)) bytes))
+      let k = filled version ns ms bytes len z in
+      rw (← (k .1), ← (k .2)) (take-append-seam (bytesOf version ns ms) (drop (length (bytesOf version ns ms)) bytes))
 
-  reads : readOf (bytesOf ns ms) ≡ record { answer = 0; list = Lists.packed (channelsOf ns); steps = S.packed (stepsOf ms) }
+  reads : readOf (bytesOf version ns ms) ≡ record { answer = 0; version = version; list = Lists.packed (channelsOf ns); steps = S.packed (stepsOf ms) }
   reads =
-      let w = read-written (listOf ns) (planOf ms) (numbers-plan ns ms ∙ judged) .read in
+      let w = read-written version (listOf ns) (planOf ms) (numbers-plan version ns ms ∙ judged) .read in
       rw (
-        record-by ns ms judged (λ n. n) (map-over (stepsOf ms)),
+        record-by version ns ms judged (λ n. n) (map-over (stepsOf ms)),
         list-channels ns (is .list .0),
         plan-steps (λ n. n) ms (is .steps .0),
         map-over (stepsOf ms),
       ) at w
 
 pub read-back : ReadBack
-read-back ns ms bytes len z = ap readOf (front ns ms bytes len z) ∙ reads ns ms bytes len z
+read-back version ns ms bytes len z = ap readOf (front version ns ms bytes len z) ∙ reads version ns ms bytes len z

@@ -15,30 +15,30 @@ use Rattle.numbered.specs.Numbered.{channelNumbers, stepNumbers, whole, 
 use Rattle.numbered.specs.Arrays.{listOf, planOf}
 
 -- ---- the writer: answer, bytes and length are what it gives for the flat arrays of the numbers
-pub record AsWritten (ns ms bytes len : List ℕ) : Type 0 where
-  pub answered : answer ns ms bytes len ≡ writtenOf (listOf ns) (planOf ms) bytes .answer
-  pub written : recordAfter ns ms bytes len ≡ writtenBytes (listOf ns) (planOf ms) bytes
-  pub told : lengthAfter ns ms bytes len
-      ≡ cond (eqb (writtenOf (listOf ns) (planOf ms) bytes .answer) 0) (writtenOf (listOf ns) (planOf ms) bytes .length ∷ drop 1 len) len
+pub record AsWritten (version : ℕ) (ns ms bytes len : List ℕ) : Type 0 where
+  pub answered : answer version ns ms bytes len ≡ writtenOf version (listOf ns) (planOf ms) bytes .answer
+  pub written : recordAfter version ns ms bytes len ≡ writtenBytes version (listOf ns) (planOf ms) bytes
+  pub told : lengthAfter version ns ms bytes len
+      ≡ cond (eqb (writtenOf version (listOf ns) (planOf ms) bytes .answer) 0) (writtenOf version (listOf ns) (planOf ms) bytes .length ∷ drop 1 len) len
 
 -- where no number is left over and the length has room; the fields need no such condition, since the writer's definitions refuse what no field
 -- could hold, as the numbers' do
 abbrev pub AsWrittenLaw : Type 0
 AsWrittenLaw =
-    (ns ms bytes len : List ℕ) → whole channelNumbers ns ≡ true → whole stepNumbers ms ≡ true → 1 ≤ length len
-    → AsWritten ns ms bytes len
+    (version : ℕ) (ns ms bytes len : List ℕ) → whole channelNumbers ns ≡ true → whole stepNumbers ms ≡ true → 1 ≤ length len
+    → AsWritten version ns ms bytes len
 
 -- the arrays of the steps are those that hold the list of steps, where their flags are allowed
 abbrev pub PlanPacked : Type 0
 PlanPacked = (ms : List ℕ) → all flagsAllowed (flagsOf ms) ≡ true → planOf ms ≡ S.packed (stepsOf ms)
 
--- ---- the reader: a record that was made, as long as the first number of the length tells, reads as the channels and the steps of the numbers
+-- ---- the reader: a record that was made, as long as the first number of the length tells, reads as the version, the channels and the steps of the numbers
 abbrev pub ReadBack : Type 0
 ReadBack =
-    (ns ms bytes len : List ℕ) → answer ns ms bytes len ≡ 0
-    → readOf (take (getD (lengthAfter ns ms bytes len) 0 0) (recordAfter ns ms bytes len))
-    ≡ record { answer = 0; list = Lists.packed (channelsOf ns); steps = S.packed (stepsOf ms) }
+    (version : ℕ) (ns ms bytes len : List ℕ) → answer version ns ms bytes len ≡ 0
+    → readOf (take (getD (lengthAfter version ns ms bytes len) 0 0) (recordAfter version ns ms bytes len))
+    ≡ record { answer = 0; version = version; list = Lists.packed (channelsOf ns); steps = S.packed (stepsOf ms) }
 
 -- ---- a refusal: "lent slices keep their contents"
 abbrev pub RefusalKeeps : Type 0
-RefusalKeeps = (ns ms bytes len : List ℕ) → (answer ns ms bytes len ≡ 0 → ⊥) → (recordAfter ns ms bytes len ≡ bytes) × (lengthAfter ns ms bytes len ≡ len)
+RefusalKeeps = (version : ℕ) (ns ms bytes len : List ℕ) → (answer version ns ms bytes len ≡ 0 → ⊥) → (recordAfter version ns ms bytes len ≡ bytes) × (lengthAfter version ns ms bytes len ≡ len)

@@ -1,6 +1,6 @@
 -- A record from numbers: "A list as numbers: four a channel (width, height, two shifts) ..; steps three each (flags, first, number)"; "both shifts
 -- 255 mean meta". The questions are those of the record's writer, 3 to 11 and 14, put to whole numbers of any size: "A number that no field could
--- hold is judged by its question, never cut." Definitions only.
+-- hold is judged by its question, never cut." A.11 puts the plan version first, a number too. Definitions only.
 use mathlib.Core.Bool.{Bool, cond, _&&_}
 use mathlib.Core.List.{List, _∷_, _++_}
 use Prim.Native.Nat.{ℕ, _+_, _*_, _/_, _%_}
@@ -12,6 +12,7 @@ use Rattle.list.specs.declared.Step.{Step}
 use Rattle.list.specs.Tables.{table, all}
 use Rattle.list.specs.Lists.{maxSteps}
 use Rattle.list.specs.Questions.{ask, countAllowed, channelsAllowed, totalAllowed}
+use Rattle.plan.specs.Version.{isVersion}
 use Rattle.plan.specs.Steps.{flagsAllowed}
 use Rattle.plan.specs.Plans.{judgeMeant}
 use Rattle.record.specs.Bytes.{recordOf}
@@ -71,33 +72,33 @@ unfoldable pub flagsOf : List ℕ → List ℕ
 flagsOf ms = table (flagsAt ms) 0 (groups stepNumbers ms)
 
 -- the record's bytes
-unfoldable pub bytesOf : List ℕ → List ℕ → List ℕ
-bytesOf ns ms = recordOf (channelsOf ns) (stepsOf ms)
+unfoldable pub bytesOf : ℕ → List ℕ → List ℕ → List ℕ
+bytesOf version ns ms = recordOf version (channelsOf ns) (stepsOf ms)
 
 -- ---- the questions
--- 3 to 11
-unfoldable pub judgeNumbers : List ℕ → List ℕ → ℕ
-judgeNumbers ns ms =
+-- 3 to 11; A.11: 4 also for "a version other than 1 or 2"
+unfoldable pub judgeNumbers : ℕ → List ℕ → List ℕ → ℕ
+judgeNumbers version ns ms =
     ask (countAllowed (groups channelNumbers ns) && leb (groups stepNumbers ms) maxSteps) refusedCount
-    (ask (channelsAllowed (channelsOf ns) && all flagsAllowed (flagsOf ms)) refusedForm
+    (ask (channelsAllowed (channelsOf ns) && (all flagsAllowed (flagsOf ms) && isVersion version)) refusedForm
     (ask (totalAllowed (channelsOf ns)) refusedSamples
-    (judgeMeant (stepsOf ms) (channelsOf ns))))
+    (judgeMeant version (stepsOf ms) (channelsOf ns))))
 
 -- 14. "a remainder is question 14's"; "a slice for the record at least the bytes needed", and one for the length at least one number
-unfoldable pub slicesAllowed : List ℕ → List ℕ → List ℕ → List ℕ → Bool
-slicesAllowed ns ms bytes len =
-    (whole channelNumbers ns && whole stepNumbers ms) && (leb (length (bytesOf ns ms)) (length bytes) && leb 1 (length len))
+unfoldable pub slicesAllowed : ℕ → List ℕ → List ℕ → List ℕ → List ℕ → Bool
+slicesAllowed version ns ms bytes len =
+    (whole channelNumbers ns && whole stepNumbers ms) && (leb (length (bytesOf version ns ms)) (length bytes) && leb 1 (length len))
 
-unfoldable pub answer : List ℕ → List ℕ → List ℕ → List ℕ → ℕ
-answer ns ms bytes len =
-    ask (eqb (judgeNumbers ns ms) 0) (judgeNumbers ns ms)
-    (ask (slicesAllowed ns ms bytes len) refusedLength 0)
+unfoldable pub answer : ℕ → List ℕ → List ℕ → List ℕ → List ℕ → ℕ
+answer version ns ms bytes len =
+    ask (eqb (judgeNumbers version ns ms) 0) (judgeNumbers version ns ms)
+    (ask (slicesAllowed version ns ms bytes len) refusedLength 0)
 
 -- ---- the two slices afterwards: "A slice that is filled has at least the numbers needed, and those past them stay."
-unfoldable pub recordAfter : List ℕ → List ℕ → List ℕ → List ℕ → List ℕ
-recordAfter ns ms bytes len =
-    cond (eqb (answer ns ms bytes len) 0) (bytesOf ns ms ++ drop (length (bytesOf ns ms)) bytes) bytes
+unfoldable pub recordAfter : ℕ → List ℕ → List ℕ → List ℕ → List ℕ → List ℕ
+recordAfter version ns ms bytes len =
+    cond (eqb (answer version ns ms bytes len) 0) (bytesOf version ns ms ++ drop (length (bytesOf version ns ms)) bytes) bytes
 
-unfoldable pub lengthAfter : List ℕ → List ℕ → List ℕ → List ℕ → List ℕ
-lengthAfter ns ms bytes len =
-    cond (eqb (answer ns ms bytes len) 0) (length (bytesOf ns ms) ∷ drop 1 len) len
+unfoldable pub lengthAfter : ℕ → List ℕ → List ℕ → List ℕ → List ℕ → List ℕ
+lengthAfter version ns ms bytes len =
+    cond (eqb (answer version ns ms bytes len) 0) (length (bytesOf version ns ms) ∷ drop 1 len) len

@@ -1,6 +1,7 @@
-// Records from plain numbers, four a channel and three a step: the questions of
-// the record's writer put to numbers of any size, then its bytes. Total: a
-// number that no field could hold is judged by its question, never cut.
+// Records from plain numbers, the plan version, four a channel and three a step:
+// the questions of the record's writer put to numbers of any size, then its
+// bytes. Total: a number that no field could hold is judged by its question,
+// never cut.
 ghost use mathlib.Core.Path.{_≡_};
 ghost use mathlib.Core.Bool.{true};
 ghost use Prim.Native.Nat.{_<_, _≤_};
@@ -135,8 +136,8 @@ fn steps_of(steps: &[u32]) -> Steps
 }
 
 // Questions 3 to 11.
-fn judge_numbers(channels: &[u32], steps: &[u32]) -> u32
-    ensures { λ r. ⌜ r ≡ Spec.judgeNumbers (now (channels .entry)) (now (steps .entry)) ⌝ }
+fn judge_numbers(version: u32, channels: &[u32], steps: &[u32]) -> u32
+    ensures { λ r. ⌜ r ≡ Spec.judgeNumbers version (now (channels .entry)) (now (steps .entry)) ⌝ }
 {
     let count = channels.len() / CHANNEL_NUMBERS;
     let step_count = steps.len() / STEP_NUMBERS;
@@ -148,21 +149,22 @@ fn judge_numbers(channels: &[u32], steps: &[u32]) -> u32
     if !(channels_fit(channels) & flags_allowed(steps)) {
         return REFUSED_FORM;
     }
-    plan::rewrite(list_of(channels), steps_of(steps)).answer
+    plan::rewrite(version, list_of(channels), steps_of(steps)).answer
 }
 
 // Questions 3 to 11 and 14, then the record over the front of `record` and its
 // length in the first number of `length`. A remainder is question 14's, so that
 // the plan is judged before it, and once more by the record's writer.
 pub fn record_of_numbers(
+    version: u32,
     channels: &[u32],
     steps: &[u32],
     record: &mut [u8],
     length: &mut [u32],
 ) -> u32
-    ensures { λ r. ⌜ (r ≡ Spec.answer (now (channels .entry)) (now (steps .entry)) (now («record» .entry)) (now (length .entry))) × (now («record» .exit) ≡ Spec.recordAfter (now (channels .entry)) (now (steps .entry)) (now («record» .entry)) (now (length .entry))) × (now (length .exit) ≡ Spec.lengthAfter (now (channels .entry)) (now (steps .entry)) (now («record» .entry)) (now (length .entry))) ⌝ }
+    ensures { λ r. ⌜ (r ≡ Spec.answer version (now (channels .entry)) (now (steps .entry)) (now («record» .entry)) (now (length .entry))) × (now («record» .exit) ≡ Spec.recordAfter version (now (channels .entry)) (now (steps .entry)) (now («record» .entry)) (now (length .entry))) × (now (length .exit) ≡ Spec.lengthAfter version (now (channels .entry)) (now (steps .entry)) (now («record» .entry)) (now (length .entry))) ⌝ }
 {
-    let answer = judge_numbers(channels, steps);
+    let answer = judge_numbers(version, channels, steps);
     if answer != 0 {
         return answer;
     }
@@ -170,7 +172,7 @@ pub fn record_of_numbers(
     if !(whole & (1 <= length.len())) {
         return REFUSED_LENGTH;
     }
-    let written = record::write_record(list_of(channels), steps_of(steps), record);
+    let written = record::write_record(version, list_of(channels), steps_of(steps), record);
     if written.answer != 0 {
         return written.answer;
     }

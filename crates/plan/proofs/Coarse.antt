@@ -11,10 +11,14 @@ use Rattle.channel.specs.declared.Channel.{Channel}
 use Rattle.channel.specs.Channel.{isMeta}
 use Rattle.list.specs.Tables.{all}
 use Rattle.list.specs.Questions.{noMeta, metaFirst, channelOf}
+use Rattle.list.specs.declared.ChannelList.{ChannelList}
+use Rattle.list.specs.Lists.{channels}
+use Rattle.plan.specs.declared.CoarseCount.{CoarseCount}
+use Rattle.plan.specs.Version.{isVersion, ruleOf}
 use Rattle.plan.specs.Default as Default
 use Rattle.plan.specs.Default.{leading, metaCount}
 use Rattle.plan.specs.Coarse as Coarse
-use Rattle.plan.specs.Coarse.{isSmall, isCoarse, coarseCount, OthersSmall, IsCount, CountLaws}
+use Rattle.plan.specs.Coarse.{isSmall, isCoarse, coarseCount, coarseOf, OthersSmall, IsCount, CountLaws}
 
 -- ---- the leading channels that pass a test
 module _ (p : Channel → Bool) where
@@ -146,3 +150,9 @@ module _ (stop : ℕ) where
         as-before = no-meta-count cs;
         parts = parts cs;
       }
+
+-- r is what `coarse_count` gave
+pub coarse-is : (version : ℕ) (l : ChannelList) → isVersion version ≡ true → (r : CoarseCount) → r ≡ coarseOf version l
+    → r .count ≡ coarseCount (ruleOf version .stop) (channels l)
+unfolding coarseOf
+coarse-is version l v r e = ap (λ (x : CoarseCount). x .count) e ∙ rw v

@@ -23,15 +23,15 @@ fits l xs = eqb (length xs) (total (channels l))
 unfoldable pub slicesFit : ChannelList → List ℤ → List ℤ → List ℤ → Bool
 slicesFit l pyramid picture work = fits l pyramid && (fits l picture && fits l work)
 
--- questions 3 to 11 of list and steps, then 14
-unfoldable pub answerOf : ChannelList → Steps → List ℤ → List ℤ → List ℤ → ℕ
-answerOf l s pyramid picture work =
-    ask (eqb (judgePlan l s) 0) (judgePlan l s) (ask (slicesFit l pyramid picture work) refusedLength 0)
+-- questions 3 to 11 of version, list and steps, then 14
+unfoldable pub answerOf : ℕ → ChannelList → Steps → List ℤ → List ℤ → List ℤ → ℕ
+answerOf version l s pyramid picture work =
+    ask (eqb (judgePlan version l s) 0) (judgePlan version l s) (ask (slicesFit l pyramid picture work) refusedLength 0)
 
 -- the lent slices afterwards: "lent slices keep their contents" where the call is refused
-unfoldable pub pictureAfter : ChannelList → Steps → List ℤ → List ℤ → List ℤ → List ℤ
-pictureAfter l s pyramid picture work =
-    cond (eqb (answerOf l s pyramid picture work) 0) (rebuilt (meant (steps s) (channels l)) (channels l) pyramid) picture
+unfoldable pub pictureAfter : ℕ → ChannelList → Steps → List ℤ → List ℤ → List ℤ → List ℤ
+pictureAfter version l s pyramid picture work =
+    cond (eqb (answerOf version l s pyramid picture work) 0) (rebuilt (meant version (steps s) (channels l)) (channels l) pyramid) picture
 
-unfoldable pub workAfter : ChannelList → Steps → List ℤ → List ℤ → List ℤ → List ℤ
-workAfter l s pyramid picture work = cond (eqb (answerOf l s pyramid picture work) 0) (zeros work) work
+unfoldable pub workAfter : ℕ → ChannelList → Steps → List ℤ → List ℤ → List ℤ → List ℤ
+workAfter version l s pyramid picture work = cond (eqb (answerOf version l s pyramid picture work) 0) (zeros work) work

@@ -428,15 +428,16 @@ fn run(list: ChannelList, steps: Steps, pyramid: &[i32], picture: &mut [i32], wo
 // The picture that a pyramid holds under a plan. The answer is 0, or the
 // refusal's number.
 pub fn rebuild(
+    version: u32,
     list: ChannelList,
     steps: Steps,
     pyramid: &[i32],
     picture: &mut [i32],
     work: &mut [i32],
 ) -> u32
-    ensures { λ r. ⌜ (r ≡ answerOf list steps (now (pyramid .entry)) (now (picture .entry)) (now (work .entry))) × (now (picture .exit) ≡ pictureAfter list steps (now (pyramid .entry)) (now (picture .entry)) (now (work .entry))) × (now (work .exit) ≡ workAfter list steps (now (pyramid .entry)) (now (picture .entry)) (now (work .entry))) ⌝ }
+    ensures { λ r. ⌜ (r ≡ answerOf version list steps (now (pyramid .entry)) (now (picture .entry)) (now (work .entry))) × (now (picture .exit) ≡ pictureAfter version list steps (now (pyramid .entry)) (now (picture .entry)) (now (work .entry))) × (now (work .exit) ≡ workAfter version list steps (now (pyramid .entry)) (now (picture .entry)) (now (work .entry))) ⌝ }
 {
-    let answer = plan::rewrite(list, steps).answer;
+    let answer = plan::rewrite(version, list, steps).answer;
     if answer != 0 {
         return answer;
     }
@@ -444,7 +445,7 @@ pub fn rebuild(
     if !((pyramid.len() == total) & ((picture.len() == total) & (work.len() == total))) {
         return REFUSED_LENGTH;
     }
-    let meant = plan::meant_steps(list, steps).steps;
+    let meant = plan::meant_steps(version, list, steps).steps;
     run(list, meant, pyramid, picture, work);
     buffer::clear(work);
     0

@@ -12,16 +12,17 @@ pub extern "C" fn squeeze_listing(bytes: &[u8], text: &mut [u8], size: &mut [u32
     listing::list_record(bytes, text, size)
 }
 
-// The record of a list and its steps given as numbers, over the front of `bytes`,
-// and its length as the first of `size`.
+// The record of a plan version, a list and its steps given as numbers, over the
+// front of `bytes`, and its length as the first of `size`.
 #[no_mangle]
 pub extern "C" fn squeeze_record(
+    version: u32,
     channels: &[u32],
     steps: &[u32],
     bytes: &mut [u8],
     size: &mut [u32],
 ) -> u32
-    ensures { λ r. ⌜ (r ≡ Numbered.answer (now (channels .entry)) (now (steps .entry)) (now (bytes .entry)) (now (size .entry))) × (now (bytes .exit) ≡ Numbered.recordAfter (now (channels .entry)) (now (steps .entry)) (now (bytes .entry)) (now (size .entry))) × (now (size .exit) ≡ Numbered.lengthAfter (now (channels .entry)) (now (steps .entry)) (now (bytes .entry)) (now (size .entry))) ⌝ }
+    ensures { λ r. ⌜ (r ≡ Numbered.answer version (now (channels .entry)) (now (steps .entry)) (now (bytes .entry)) (now (size .entry))) × (now (bytes .exit) ≡ Numbered.recordAfter version (now (channels .entry)) (now (steps .entry)) (now (bytes .entry)) (now (size .entry))) × (now (size .exit) ≡ Numbered.lengthAfter version (now (channels .entry)) (now (steps .entry)) (now (bytes .entry)) (now (size .entry))) ⌝ }
 {
-    numbered::record_of_numbers(channels, steps, bytes, size)
+    numbered::record_of_numbers(version, channels, steps, bytes, size)
 }

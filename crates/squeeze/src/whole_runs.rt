@@ -1,6 +1,6 @@
 // Whole runs over a record: a picture rebuilt from its pyramid, and written as
 // one. Questions 1 to 4 of the record's form here, then, by the run, 3 to 11 of its
-// list and plan and 14 of the slices.
+// version, list and plan and 14 of the slices.
 ghost use mathlib.Core.Path.{_≡_};
 ghost use Rattle.squeeze.specs.Entry as Entry;
 
@@ -19,7 +19,7 @@ pub extern "C" fn squeeze_rebuild(
     if form.answer != 0 {
         return form.answer;
     }
-    rebuild::rebuild(form.list, form.steps, pyramid, picture, work)
+    rebuild::rebuild(form.version, form.list, form.steps, pyramid, picture, work)
 }
 
 // The pyramid of the picture that the record describes.
@@ -36,5 +36,5 @@ pub extern "C" fn squeeze_write(
     if form.answer != 0 {
         return form.answer;
     }
-    write::write(form.list, form.steps, picture, pyramid, work)
+    write::write(form.version, form.list, form.steps, picture, pyramid, work)
 }

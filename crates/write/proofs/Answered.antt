@@ -21,10 +21,10 @@ use Rattle.write.specs.Write.{slicesFit, answer, written, cleared}
 
 -- ---- the slices
 -- t is what `total` gave
-pub fit-tested : (l : ChannelList) (s : Steps) → judgePlan l s ≡ 0 → (t : ℕ) → t ≡ countedTotal (channels l) → (picture pyramid work : List ℤ)
+pub fit-tested : (version : ℕ) (l : ChannelList) (s : Steps) → judgePlan version l s ≡ 0 → (t : ℕ) → t ≡ countedTotal (channels l) → (picture pyramid work : List ℤ)
     → eqb (length picture) t && (eqb (length pyramid) t && eqb (length work) t) ≡ slicesFit (channels l) picture pyramid work
 unfolding slicesFit
-fit-tested l s ok t e picture pyramid work = rw (e, judged-total l s ok)
+fit-tested version l s ok t e picture pyramid work = rw (e, judged-total version l s ok)
 
 pub fit-lengths : (cs : List Channel) (picture pyramid work : List ℤ) → slicesFit cs picture pyramid work ≡ true
     → (length picture ≡ total cs) × (length pyramid ≡ total cs) × (length work ≡ total cs)
@@ -35,22 +35,22 @@ fit-lengths cs picture pyramid work e =
     (eqb-true (length picture) (total cs) (a .0), eqb-true (length pyramid) (total cs) (b .0), eqb-true (length work) (total cs) (b .1))
 
 -- ---- the results
-module _ (l : ChannelList) (s : Steps) (picture pyramid work : List ℤ) where
+module _ (version : ℕ) (l : ChannelList) (s : Steps) (picture pyramid work : List ℤ) where
   abbrev Results : ℕ → List ℤ → List ℤ → Type 0
   Results n ys ws =
-      (n ≡ answer l s picture pyramid work) × (ys ≡ written l s picture pyramid work) × (ws ≡ cleared l s picture pyramid work)
+      (n ≡ answer version l s picture pyramid work) × (ys ≡ written version l s picture pyramid work) × (ws ≡ cleared version l s picture pyramid work)
 
-  pub plan-refused : (a : ℕ) → a ≡ judgePlan l s → (a ≡ 0 → ⊥) → Results a pyramid work
+  pub plan-refused : (a : ℕ) → a ≡ judgePlan version l s → (a ≡ 0 → ⊥) → Results a pyramid work
   unfolding answer written cleared
   plan-refused a e h =
       let n = ne-eqb a 0 h in
       (rw (← e, n), rw (← e, n, n), rw (← e, n, n))
 
-  pub slices-refused : judgePlan l s ≡ 0 → slicesFit (channels l) picture pyramid work ≡ false → Results 12 pyramid work
+  pub slices-refused : judgePlan version l s ≡ 0 → slicesFit (channels l) picture pyramid work ≡ false → Results 12 pyramid work
   unfolding answer written cleared
   slices-refused e h = (rw (e, h), rw (e, h), rw (e, h))
 
-  pub accepted : judgePlan l s ≡ 0 → slicesFit (channels l) picture pyramid work ≡ true → (ys ws : List ℤ)
-      → ys ≡ squeezed (meant (steps s) (channels l)) (channels l) picture → ws ≡ zeros work → Results 0 ys ws
+  pub accepted : judgePlan version l s ≡ 0 → slicesFit (channels l) picture pyramid work ≡ true → (ys ws : List ℤ)
+      → ys ≡ squeezed (meant version (steps s) (channels l)) (channels l) picture → ws ≡ zeros work → Results 0 ys ws
   unfolding answer written cleared
   accepted e h ys ws ey ew = (rw (e, h), rw (e, h) ey, rw (e, h) ew)

@@ -22,16 +22,16 @@ unfoldable pub slicesFit : List Channel → List ℤ → List ℤ → List ℤ �
 slicesFit cs picture pyramid work =
     eqb (length picture) (total cs) && (eqb (length pyramid) (total cs) && eqb (length work) (total cs))
 
-unfoldable pub answer : ChannelList → Steps → List ℤ → List ℤ → List ℤ → ℕ
-answer l s picture pyramid work =
-    ask (eqb (judgePlan l s) 0) (judgePlan l s)
+unfoldable pub answer : ℕ → ChannelList → Steps → List ℤ → List ℤ → List ℤ → ℕ
+answer version l s picture pyramid work =
+    ask (eqb (judgePlan version l s) 0) (judgePlan version l s)
     (ask (slicesFit (channels l) picture pyramid work) refusedLength 0)
 
 -- the pyramid slice afterwards: the plan's steps on the picture, first to last
-unfoldable pub written : ChannelList → Steps → List ℤ → List ℤ → List ℤ → List ℤ
-written l s picture pyramid work =
-    cond (eqb (answer l s picture pyramid work) 0) (squeezed (meant (steps s) (channels l)) (channels l) picture) pyramid
+unfoldable pub written : ℕ → ChannelList → Steps → List ℤ → List ℤ → List ℤ → List ℤ
+written version l s picture pyramid work =
+    cond (eqb (answer version l s picture pyramid work) 0) (squeezed (meant version (steps s) (channels l)) (channels l) picture) pyramid
 
 -- the work slice afterwards
-unfoldable pub cleared : ChannelList → Steps → List ℤ → List ℤ → List ℤ → List ℤ
-cleared l s picture pyramid work = cond (eqb (answer l s picture pyramid work) 0) (zeros work) work
+unfoldable pub cleared : ℕ → ChannelList → Steps → List ℤ → List ℤ → List ℤ → List ℤ
+cleared version l s picture pyramid work = cond (eqb (answer version l s picture pyramid work) 0) (zeros work) work

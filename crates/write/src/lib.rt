@@ -329,15 +329,16 @@ fn run(list: ChannelList, steps: Steps, picture: &[i32], pyramid: &mut [i32], wo
 // The pyramid of a picture: all slices have the samples of the list, and the
 // work slice is cleared at the end.
 pub fn write(
+    version: u32,
     list: ChannelList,
     steps: Steps,
     picture: &[i32],
     pyramid: &mut [i32],
     work: &mut [i32],
 ) -> u32
-    ensures { λ r. ⌜ (r ≡ Write.answer list steps (now (picture .entry)) (now (pyramid .entry)) (now (work .entry))) × (now (pyramid .exit) ≡ Write.written list steps (now (picture .entry)) (now (pyramid .entry)) (now (work .entry))) × (now (work .exit) ≡ Write.cleared list steps (now (picture .entry)) (now (pyramid .entry)) (now (work .entry))) ⌝ }
+    ensures { λ r. ⌜ (r ≡ Write.answer version list steps (now (picture .entry)) (now (pyramid .entry)) (now (work .entry))) × (now (pyramid .exit) ≡ Write.written version list steps (now (picture .entry)) (now (pyramid .entry)) (now (work .entry))) × (now (work .exit) ≡ Write.cleared version list steps (now (picture .entry)) (now (pyramid .entry)) (now (work .entry))) ⌝ }
 {
-    let answer = plan::rewrite(list, steps).answer;
+    let answer = plan::rewrite(version, list, steps).answer;
     if answer != 0 {
         return answer;
     }
@@ -347,7 +348,7 @@ pub fn write(
     }
     run(
         list,
-        plan::meant_steps(list, steps).steps,
+        plan::meant_steps(version, list, steps).steps,
         picture,
         pyramid,
         work,

@@ -2,6 +2,7 @@
 use borrow.Author.Needs.{needs}
 use Rattle.listing.specs.Listing.{planText}
 use Rattle.listing.proofs.Puts.{then}
+use Rattle.plan.proofs.Coarse.{coarse-is}
 use Rattle.listing.proofs.Held.{channels-count, steps-count}
 use Rattle.listing.proofs.put_plan.Statement.{statement}
 use Rattle.listing.proofs.put_plan.Tie as tie
@@ -45,7 +46,8 @@ returns c =
     let s = n .before .before .before .before .before in
     let m = s .before .before .before .before in
     let g = m .before .before .before .before in
-    rw (← o .before .before .coarse-count .ensures, channels-count (g .args .list) (g .pre .1), steps-count (g .args .steps) (g .pre .0))
+    let coarse = coarse-is (g .args .version) (g .args .list) (g .pre .0) _ (o .before .before .coarse-count .ensures) in
+    rw (← coarse, channels-count (g .args .list) (g .pre .2), steps-count (g .args .steps) (g .pre .1))
     (then (m .put-numbered .ensures .0) (then (s .put-steps .ensures .0) (then (n .put-numbered2 .ensures .0) (then (h .put-channels .ensures .0) (o .put-numbered3 .ensures .0)))))
 
 pub put-plan-spec : {M : Type 1} → statement M

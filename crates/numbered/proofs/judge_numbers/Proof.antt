@@ -11,7 +11,7 @@ use Rattle.numbered.proofs.judge_numbers.Tie as tie
 
 returns : tie.Need-returns
 unfolding Q.countAllowed
-returns c = numbers-refused₃ _ _ (not-true _ (c .if1 .taken))
+returns c = numbers-refused₃ _ _ _ (not-true _ (c .if1 .taken))
 
 channels-fit-requires : tie.Need-channels-fit-requires
 channels-fit-requires c κs = search needs
@@ -23,20 +23,20 @@ returns-2 : tie.Need-returns-2
 unfolding Q.countAllowed
 returns-2 c =
     let f = c .before .before in
-    numbers-misfit _ _ (not-false _ (f .before .if1 .left)) _ _ (f .channels-fit .ensures) (c .before .flags-allowed .ensures) (c .if2 .taken)
+    numbers-misfit (f .before .before .before .before .args .version) _ _ (not-false _ (f .before .if1 .left)) _ _ (f .channels-fit .ensures) (c .before .flags-allowed .ensures) (c .if2 .taken)
 
 list-of-requires : tie.Need-list-of-requires
 unfolding Q.countAllowed
 list-of-requires c κs =
     let f = c .before .before in
-    numbers-fit _ _ (not-false _ (f .before .if1 .left)) _ _ (f .channels-fit .ensures) (c .before .flags-allowed .ensures) (c .if2 .left) .0
+    numbers-fit (f .before .before .before .before .args .version) _ _ (not-false _ (f .before .if1 .left)) _ _ (f .channels-fit .ensures) (c .before .flags-allowed .ensures) (c .if2 .left) .0
 
 steps-of-requires : tie.Need-steps-of-requires
 unfolding Q.countAllowed
 steps-of-requires c κs =
     let t = c .before in
     let f = t .before .before in
-    numbers-fit _ _ (not-false _ (f .before .if1 .left)) _ _ (f .channels-fit .ensures) (t .before .flags-allowed .ensures) (t .if2 .left) .1
+    numbers-fit (f .before .before .before .before .args .version) _ _ (not-false _ (f .before .if1 .left)) _ _ (f .channels-fit .ensures) (t .before .flags-allowed .ensures) (t .if2 .left) .1
 
 rewrite-requires : tie.Need-rewrite-requires
 rewrite-requires c κs = search needs
@@ -50,9 +50,9 @@ returns-3 c =
     let f = t .before .before in
     let a = f .before .before .before .before .args in
     let e = not-false _ (f .before .if1 .left) in
-    plan-answer _ _ _ (c .rewrite .ensures)
+    plan-answer _ _ _ _ (c .rewrite .ensures)
     ∙ rw (l .list-of .ensures, s .steps-of .ensures)
-    (numbers-held (a .channels .now) (a .steps .now) e (numbers-fit _ _ e _ _ (f .channels-fit .ensures) (t .before .flags-allowed .ensures) (t .if2 .left) .0))
+    (numbers-held (a .version) (a .channels .now) (a .steps .now) e (numbers-fit (f .before .before .before .before .args .version) _ _ e _ _ (f .channels-fit .ensures) (t .before .flags-allowed .ensures) (t .if2 .left) .0))
 
 pub judge-numbers-spec : {M : Type 1} → statement M
 judge-numbers-spec =

@@ -14,19 +14,19 @@ judge-numbers-requires c κs = search needs
 returns : tie.Need-returns
 returns c =
     let a = c .before .before .before .before .before .before .args in
-    numbers-refused (a .channels .now) (a .steps .now) (a .«record» .now) (a .length .now) _ (c .before .judge-numbers .ensures) (c .if1 .taken)
+    numbers-refused (a .version) (a .channels .now) (a .steps .now) (a .«record» .now) (a .length .now) _ (c .before .judge-numbers .ensures) (c .if1 .taken)
 
 returns-2 : tie.Need-returns-2
 returns-2 c =
     let j = c .before .before in
     let a = j .before .before .before .before .before .args in
-    slices-refused (a .channels .now) (a .steps .now) (a .«record» .now) (a .length .now) _ (j .judge-numbers .ensures) (c .before .if1 .left) (c .if2 .taken)
+    slices-refused (a .version) (a .channels .now) (a .steps .now) (a .«record» .now) (a .length .now) _ (j .judge-numbers .ensures) (c .before .if1 .left) (c .if2 .taken)
 
 list-of-requires : tie.Need-list-of-requires
-list-of-requires c κs = let j = c .before .before in accepted _ _ (sym (j .judge-numbers .ensures) ∙ c .before .if1 .left) .list
+list-of-requires c κs = let j = c .before .before in accepted _ _ _ (sym (j .judge-numbers .ensures) ∙ c .before .if1 .left) .list
 
 steps-of-requires : tie.Need-steps-of-requires
-steps-of-requires c κs = let j = c .before .before .before in accepted _ _ (sym (j .judge-numbers .ensures) ∙ c .before .before .if1 .left) .steps
+steps-of-requires c κs = let j = c .before .before .before in accepted _ _ _ (sym (j .judge-numbers .ensures) ∙ c .before .before .if1 .left) .steps
 
 write-record-requires : tie.Need-write-record-requires
 write-record-requires c κs = search needs
@@ -41,7 +41,7 @@ returns-3 c =
     let t = l .before in
     let j = t .before .before in
     let a = j .before .before .before .before .before .args in
-    writing-refused (a .channels .now) (a .steps .now) (a .«record» .now) (a .length .now) _ (j .judge-numbers .ensures) (t .before .if1 .left) (t .if2 .left)
+    writing-refused (a .version) (a .channels .now) (a .steps .now) (a .«record» .now) (a .length .now) _ (j .judge-numbers .ensures) (t .before .if1 .left) (t .if2 .left)
     _ _ (l .list-of .ensures) (w .before .before .steps-of .ensures) _ _ (w .write-record .ensures .0) (w .write-record .ensures .1) (c .if3 .taken)
 
 cast-length : tie.Need-cast-length
@@ -51,7 +51,7 @@ cast-length c =
     let t = l .before in
     let j = t .before .before in
     let a = j .before .before .before .before .before .args in
-    let few = length-few (a .channels .now) (a .steps .now) (a .«record» .now) (a .length .now) _ (j .judge-numbers .ensures) (t .before .if1 .left) (t .if2 .left)
+    let few = length-few (a .version) (a .channels .now) (a .steps .now) (a .«record» .now) (a .length .now) _ (j .judge-numbers .ensures) (t .before .if1 .left) (t .if2 .left)
     _ _ (l .list-of .ensures) (w .before .before .steps-of .ensures) _ _ (w .write-record .ensures .0) (w .write-record .ensures .1) (c .before .if3 .left) in
     record { fits = omega arith }
 
@@ -75,7 +75,7 @@ returns-4 c =
     let t = l .before in
     let j = t .before .before in
     let a = j .before .before .before .before .before .args in
-    writing-done (a .channels .now) (a .steps .now) (a .«record» .now) (a .length .now) _ (j .judge-numbers .ensures) (t .before .if1 .left) (t .if2 .left)
+    writing-done (a .version) (a .channels .now) (a .steps .now) (a .«record» .now) (a .length .now) _ (j .judge-numbers .ensures) (t .before .if1 .left) (t .if2 .left)
     _ _ (l .list-of .ensures) (w .before .before .steps-of .ensures) _ _ (w .write-record .ensures .0) (w .write-record .ensures .1) (c .before .if3 .left)
 
 pub record-of-numbers-spec : {M : Type 1} → statement M

@@ -14,7 +14,7 @@ returns : tie.Need-returns
 returns c =
     let w = c .before .rewrite in
     let a = c .before .before .args in
-    ends-refused (a .list) (a .steps) (a .pyramid .now) (a .picture .now) (a .work .now) (w .result .answer) (plan-answer (a .list) (a .steps) (w .result) (w .ensures))
+    ends-refused (a .version) (a .list) (a .steps) (a .pyramid .now) (a .picture .now) (a .work .now) (w .result .answer) (plan-answer (a .version) (a .list) (a .steps) (w .result) (w .ensures))
     (c .if1 .taken)
 
 total-requires : tie.Need-total-requires
@@ -25,7 +25,7 @@ returns-2 c =
     let m = c .before in
     let w = m .before .before .rewrite in
     let a = m .before .before .before .args in
-    ends-misfit (a .list) (a .steps) (a .pyramid .now) (a .picture .now) (a .work .now) (w .result .answer) (plan-answer (a .list) (a .steps) (w .result) (w .ensures)) (m .before .if1 .left) (m .total .result)
+    ends-misfit (a .version) (a .list) (a .steps) (a .pyramid .now) (a .picture .now) (a .work .now) (w .result .answer) (plan-answer (a .version) (a .list) (a .steps) (w .result) (w .ensures)) (m .before .if1 .left) (m .total .result)
     (m .total .ensures) (not-true _ (c .if2 .taken))
 
 meant-steps-requires : tie.Need-meant-steps-requires
@@ -35,12 +35,12 @@ run-requires : tie.Need-run-requires
 run-requires c κs =
     let a = c .before .before .before .before .before .before .before .before .args in
     let w = c .before .before .before .before .before .before .before .rewrite in
-    let ea = plan-answer (a .list) (a .steps) (w .result) (w .ensures) in
+    let ea = plan-answer (a .version) (a .list) (a .steps) (w .result) (w .ensures) in
     let ok = c .before .before .before .before .before .before .if1 .left in
     let t = c .before .before .before .before .before .total in
     let steps = c .before .before .before .meant-steps in
-    let n = lengths (a .list) (a .steps) (a .pyramid .now) (a .picture .now) (a .work .now) (w .result .answer) ea ok (t .result) (t .ensures) (not-false _ (c .before .before .before .before .if2 .left)) in
-    (run-fits (a .list) (a .steps) (sym ea ∙ ok) (steps .result) (steps .ensures .0) (steps .ensures .1) (a .pyramid .now) (n .0), n .1 ∙ sym (n .0), n .2 ∙ sym (n .0))
+    let n = lengths (a .version) (a .list) (a .steps) (a .pyramid .now) (a .picture .now) (a .work .now) (w .result .answer) ea ok (t .result) (t .ensures) (not-false _ (c .before .before .before .before .if2 .left)) in
+    (run-fits (a .version) (a .list) (a .steps) (sym ea ∙ ok) (steps .result) (steps .ensures .0) (steps .ensures .1) (a .pyramid .now) (n .0), n .1 ∙ sym (n .0), n .2 ∙ sym (n .0))
 
 clear-requires : tie.Need-clear-requires
 clear-requires c κs = search needs
@@ -55,13 +55,13 @@ returns-3 : tie.Need-returns-3
 returns-3 c =
     let a = c .before .before .before .before .before .before .before .before .before .before .before .before .before .before .args in
     let w = c .before .before .before .before .before .before .before .before .before .before .before .before .before .rewrite in
-    let ea = plan-answer (a .list) (a .steps) (w .result) (w .ensures) in
+    let ea = plan-answer (a .version) (a .list) (a .steps) (w .result) (w .ensures) in
     let ok = c .before .before .before .before .before .before .before .before .before .before .before .before .if1 .left in
     let t = c .before .before .before .before .before .before .before .before .before .before .before .total in
     let steps = c .before .before .before .before .before .before .before .before .before .meant-steps in
     let run = c .before .before .before .before .before .run in
-    ends-done (a .list) (a .steps) (a .pyramid .now) (a .picture .now) (a .work .now) (w .result .answer) ea ok (t .result) (t .ensures) (not-false _ (c .before .before .before .before .before .before .before .before .before .before .if2 .left)) _ _ _
-    (run-is (a .list) (a .steps) (sym ea ∙ ok) (steps .result) (steps .ensures .0) (steps .ensures .1) (a .pyramid .now) _ (run .ensures)) (run .kept .1 .1 .1 .1 .0) (c .before .clear .ensures)
+    ends-done (a .version) (a .list) (a .steps) (a .pyramid .now) (a .picture .now) (a .work .now) (w .result .answer) ea ok (t .result) (t .ensures) (not-false _ (c .before .before .before .before .before .before .before .before .before .before .if2 .left)) _ _ _
+    (run-is (a .version) (a .list) (a .steps) (sym ea ∙ ok) (steps .result) (steps .ensures .0) (steps .ensures .1) (a .pyramid .now) _ (run .ensures)) (run .kept .1 .1 .1 .1 .0) (c .before .clear .ensures)
 
 pub rebuild-spec : {M : Type 1} → statement M
 rebuild-spec =

@@ -17,18 +17,18 @@ use Rattle.write.proofs.write.Statement.{statement}
 use Rattle.write.proofs.write.Tie as tie
 
 -- the answer to questions 3 to 11
-judged : (c : tie.After-rewrite) → let a = c .before .args in c .rewrite .result .answer ≡ judgePlan (a .list) (a .steps)
+judged : (c : tie.After-rewrite) → let a = c .before .args in c .rewrite .result .answer ≡ judgePlan (a .version) (a .list) (a .steps)
 judged c =
     let a = c .before .args in
-    plan-answer (a .list) (a .steps) (c .rewrite .result) (c .rewrite .ensures)
+    plan-answer (a .version) (a .list) (a .steps) (c .rewrite .result) (c .rewrite .ensures)
 
-plan : (c : tie.Else2) → let a = c .before .before .before .before .args in judgePlan (a .list) (a .steps) ≡ 0
+plan : (c : tie.Else2) → let a = c .before .before .before .before .args in judgePlan (a .version) (a .list) (a .steps) ≡ 0
 plan c = sym (judged (c .before .before .before)) ∙ c .before .before .if1 .left
 
 slices : (c : tie.Else2) → let a = c .before .before .before .before .args in slicesFit (channels (a .list)) (a .picture .now) (a .pyramid .now) (a .work .now) ≡ true
 slices c =
     let a = c .before .before .before .before .args in
-    yes (fit-tested (a .list) (a .steps) (plan c) (c .before .total .result) (c .before .total .ensures) (a .picture .now) (a .pyramid .now) (a .work .now)) (c .if2 .left)
+    yes (fit-tested (a .version) (a .list) (a .steps) (plan c) (c .before .total .result) (c .before .total .ensures) (a .picture .now) (a .pyramid .now) (a .work .now)) (c .if2 .left)
 
 -- the slices and the steps of the run
 module _ (c : tie.After-run-arg2) where
@@ -46,8 +46,8 @@ module _ (c : tie.After-run-arg2) where
   few : c .before .before .meant-steps .result .steps .count ≤ maxSteps
   few = c .before .before .meant-steps .ensures .1
 
-  taken : steps (c .before .before .meant-steps .result .steps) ≡ meant (steps (start .args .steps)) (channels (start .args .list))
-  taken = meant-is (start .args .list) (start .args .steps) (plan passed) _ (c .before .before .meant-steps .ensures .0) few
+  taken : steps (c .before .before .meant-steps .result .steps) ≡ meant (start .args .version) (steps (start .args .steps)) (channels (start .args .list))
+  taken = meant-is (start .args .version) (start .args .list) (start .args .steps) (plan passed) _ (c .before .before .meant-steps .ensures .0) few
 
 rewrite-requires : tie.Need-rewrite-requires
 rewrite-requires c κs = search needs
@@ -55,7 +55,7 @@ rewrite-requires c κs = search needs
 returns : tie.Need-returns
 returns c =
     let a = c .before .before .args in
-    plan-refused (a .list) (a .steps) (a .picture .now) (a .pyramid .now) (a .work .now) _ (judged (c .before)) (c .if1 .taken)
+    plan-refused (a .version) (a .list) (a .steps) (a .picture .now) (a .pyramid .now) (a .work .now) _ (judged (c .before)) (c .if1 .taken)
 
 total-requires : tie.Need-total-requires
 total-requires c κs = search needs
@@ -65,8 +65,8 @@ returns-2 c =
     let rewrote = c .before .before .before in
     let a = rewrote .before .args in
     let ok = sym (judged rewrote) ∙ c .before .before .if1 .left in
-    slices-refused (a .list) (a .steps) (a .picture .now) (a .pyramid .now) (a .work .now) ok
-    (no (fit-tested (a .list) (a .steps) ok (c .before .total .result) (c .before .total .ensures) (a .picture .now) (a .pyramid .now) (a .work .now)) (c .if2 .taken))
+    slices-refused (a .version) (a .list) (a .steps) (a .picture .now) (a .pyramid .now) (a .work .now) ok
+    (no (fit-tested (a .version) (a .list) (a .steps) ok (c .before .total .result) (c .before .total .ensures) (a .picture .now) (a .pyramid .now) (a .work .now)) (c .if2 .taken))
 
 meant-steps-requires : tie.Need-meant-steps-requires
 meant-steps-requires c κs = search needs
@@ -75,7 +75,7 @@ run-requires : tie.Need-run-requires
 run-requires c κs =
     let a = start c .args in
     let ok = plan (passed c) in
-    (judged-list (a .list) (a .steps) ok, few c, rw (taken c) (meant-judged (a .list) (a .steps) ok), lengths c .0, lengths c .1)
+    (judged-list (a .version) (a .list) (a .steps) ok, few c, rw (taken c) (meant-judged (a .version) (a .list) (a .steps) ok), lengths c .0, lengths c .1)
 
 clear-requires : tie.Need-clear-requires
 clear-requires c κs = search needs
@@ -91,7 +91,7 @@ returns-3 c =
     let ran = c .before .before .before .before .before in
     let r = ran .before in
     let a = start r .args in
-    accepted (a .list) (a .steps) (a .picture .now) (a .pyramid .now) (a .work .now) (plan (passed r)) (slices (passed r)) _ _
+    accepted (a .version) (a .list) (a .steps) (a .picture .now) (a .pyramid .now) (a .work .now) (plan (passed r)) (slices (passed r)) _ _
     (rw (taken r) at (ran .run .ensures)) (c .before .clear .ensures ∙ zeros-same _ (a .work .now) (ran .run .kept .1 .1 .1 .1 .0))
 
 pub write-spec : {M : Type 1} → statement M
