@@ -5,7 +5,7 @@ use mathlib.Core.List.{List, [], _∷_}
 use Prim.Native.Nat.{ℕ, zero, suc, _≤_}
 use native.Mathlib.Omega.{arith}
 use lib.Dec.{eqb, leb, ltb}
-use lib.ListN.{length}
+use lib.ListN.{length, drop}
 use borrow.Author.Tests.{leb-true}
 use Rattle.numbers.specs.Numbers.{refusedOutside, refusedField, refusedCount, refusedForm, refusedSamples, refusedRange, refusedKinds, refusedPlace, refusedEmpty, refusedRoom, refusedDefault, refusedLength}
 use Rattle.channel.specs.declared.Channel.{Channel}
@@ -19,12 +19,14 @@ use Rattle.list.specs.Questions as Questions
 use Rattle.list.specs.Questions.{ask, countAllowed, channelsAllowed, totalAllowed, rangeAllowed, kindsAlike, placeAllowed, hasSides, roomLeft, judgeStep}
 use Rattle.list.proofs.Asking.{cond-has}
 use Rattle.plan.specs.declared.Steps.{Steps}
+use Rattle.plan.specs.Version.{standardVersion, houseVersion, isVersion}
 use Rattle.plan.specs.Steps as S
 use Rattle.plan.specs.Steps.{steps, allFlags, flagsAllowed}
 use Rattle.plan.specs.Plans as Plans
 use Rattle.plan.specs.Plans.{meant, meantAllowed, judgeForm, judgeSteps, judgePlan}
+use Rattle.record.specs.Bytes.{versionTag, versionLength, versionSize, headLength}
 use Rattle.record.specs.Reading as Reading
-use Rattle.record.specs.Reading.{Form, refused, flagsAt, fieldChannel, fieldInside, isChannel, isStep, channelAllowed, tagAllowed, judgeChannelField, judgeStepField, judgeField, finished, answerOf, readFields, formOf}
+use Rattle.record.specs.Reading.{Form, refused, byteAt, hasHead, hasVersionTag, judgeVersionField, flagsAt, fieldChannel, fieldInside, isChannel, isStep, channelAllowed, tagAllowed, judgeChannelField, judgeStepField, judgeField, finished, answerOf, readFields, formOf}
 use Rattle.record.specs.Records as Records
 use Rattle.record.specs.Records.{readAnswer}
 
@@ -51,19 +53,19 @@ steps-few : (ss : List Step) (cs : List Channel) → Few (judgeSteps ss cs)
 steps-few [] cs = none-few
 steps-few (s ∷ ss) cs = cond-has Few (eqb (judgeStep s cs) 0) _ (judgeStep s cs) (steps-few ss (stepped s cs)) (step-few s cs)
 
-form-few : (l : ChannelList) (s : Steps) → Few (judgeForm l s)
+form-few : (version : ℕ) (l : ChannelList) (s : Steps) → Few (judgeForm version l s)
 unfolding Plans.judgeForm
-form-few l s =
+form-few version l s =
     few-number (countAllowed (l .count) && leb (s .count) maxSteps) refusedCount _ refl
-    (few-number (channelsAllowed (channels l) && all flagsAllowed (allFlags s)) refusedForm _ refl
+    (few-number (channelsAllowed (channels l) && (all flagsAllowed (allFlags s) && isVersion version)) refusedForm _ refl
     (few-number (totalAllowed (channels l)) refusedSamples _ refl none-few))
 
-plan-few : (l : ChannelList) (s : Steps) → Few (judgePlan l s)
+plan-few : (version : ℕ) (l : ChannelList) (s : Steps) → Few (judgePlan version l s)
 unfolding Plans.judgePlan Plans.judgeMeant
-plan-few l s =
-    cond-has Few (eqb (judgeForm l s) 0) _ (judgeForm l s)
-    (few-number (meantAllowed (steps s) (channels l)) refusedDefault _ refl (steps-few (meant (steps s) (channels l)) (channels l)))
-    (form-few l s)
+plan-few version l s =
+    cond-has Few (eqb (judgeForm version l s) 0) _ (judgeForm version l s)
+    (few-number (meantAllowed (steps s) (channels l)) refusedDefault _ refl (steps-few (meant version (steps s) (channels l)) (channels l)))
+    (form-few version l s)
 
 -- ---- the form
 step-field-few : (bytes : List ℕ) (steps : ℕ) → Few (judgeStepField bytes steps)
@@ -87,19 +89,34 @@ field-few bytes count metas steps =
 abbrev FewForm : Form → Type 0
 FewForm form = Few (form .answer)
 
-finished-few : (cs : List Channel) (ss : List Step) → Few (finished cs ss .answer)
-finished-few cs ss = cond-has FewForm (leb 1 (length cs)) _ (refused refusedCount) none-few (leb-true refusedCount refusedLength refl)
+finished-few : (version : ℕ) (cs : List Channel) (ss : List Step) → Few (finished version cs ss .answer)
+finished-few version cs ss = cond-has FewForm (leb 1 (length cs)) _ (refused refusedCount) none-few (leb-true refusedCount refusedLength refl)
 
-fields-few : (turns : ℕ) (bytes : List ℕ) (cs : List Channel) (ss : List Step) → Few (readFields turns bytes cs ss .answer)
-fields-few zero bytes cs ss = finished-few cs ss
-fields-few (suc turns) bytes cs ss =
-    cond-has FewForm (eqb (length bytes) 0) _ _ (finished-few cs ss)
+fields-few : (version turns : ℕ) (bytes : List ℕ) (cs : List Channel) (ss : List Step) → Few (readFields version turns bytes cs ss .answer)
+fields-few version zero bytes cs ss = finished-few version cs ss
+fields-few version (suc turns) bytes cs ss =
+    cond-has FewForm (eqb (length bytes) 0) _ _ (finished-few version cs ss)
     (cond-has FewForm (eqb (answerOf bytes cs ss) 0) _ (refused (answerOf bytes cs ss))
-    (cond-has FewForm (isStep bytes) _ _ (fields-few turns _ _ _) (fields-few turns _ _ _))
+    (cond-has FewForm (isStep bytes) _ _ (fields-few version turns _ _ _) (fields-few version turns _ _ _))
     (field-few bytes (length cs) (all isMeta cs) (length ss)))
 
+version-few : (bytes : List ℕ) → Few (judgeVersionField bytes)
+unfolding Reading.judgeVersionField
+version-few bytes =
+    few-number (fieldInside bytes) refusedOutside _ refl
+    (few-number (hasHead versionTag versionLength bytes) refusedField _ refl
+    (few-number (eqb (byteAt bytes headLength) houseVersion) refusedForm _ refl none-few))
+
+form-answer-few : (bytes : List ℕ) → FewForm (formOf bytes)
+unfolding Reading.fieldsOf Reading.formOf
+form-answer-few bytes =
+    let rest = drop versionSize bytes in
+    cond-has FewForm (hasVersionTag bytes) _ _
+    (cond-has FewForm (eqb (judgeVersionField bytes) 0) _ (refused (judgeVersionField bytes)) (fields-few houseVersion (length rest) rest [] []) (version-few bytes))
+    (fields-few standardVersion (length bytes) bytes [] [])
+
 pub answer-few : (bytes : List ℕ) → readAnswer bytes ≤ refusedLength
-unfolding Records.readAnswer Reading.formOf
+unfolding Records.readAnswer
 answer-few bytes =
     cond-has Few (eqb (formOf bytes .answer) 0) _ (formOf bytes .answer)
-    (plan-few (Lists.packed (formOf bytes .channels)) (S.packed (formOf bytes .steps))) (fields-few (length bytes) bytes [] [])
+    (plan-few (formOf bytes .version) (Lists.packed (formOf bytes .channels)) (S.packed (formOf bytes .steps))) (form-answer-few bytes)

@@ -1,5 +1,5 @@
--- Bytes without a field of tag 3: field by field they are read as before, every channel read is no strip, and list and steps are judged as
--- before. Assumes nothing.
+-- Bytes without a field of tag 3, before there were versions (specs/Unversioned.antt): field by field they are read as before there were strips, every
+-- channel read is no strip, and list and steps are judged as then. Assumes nothing.
 use mathlib.Core.Path.{_≡_, refl, _∙_}
 use mathlib.Core.Bool.{true, false, cond, _&&_, not, and-eq-true-iff}
 use mathlib.Core.List.{List, [], _∷_, _++_}
@@ -20,13 +20,14 @@ use Rattle.list.proofs.Asking.{cond-has}
 use Rattle.list.proofs.Maps.{all-append}
 use Rattle.list.proofs.Packed.{channels-packed}
 use Rattle.plan.specs.Steps as S
-use Rattle.plan.specs.Plans as Plans
 use Rattle.plan.proofs.Turns.{by-test}
 use Rattle.record.specs.Bytes.{stepSize, channelSize}
 use Rattle.record.specs.Reading as New
-use Rattle.record.specs.Reading.{Form, refused, fieldSize, hasStripTag, shortChannel, fieldChannel, fieldStep, finished}
+use Rattle.record.specs.Reading.{fieldSize, hasStripTag, shortChannel, fieldChannel, fieldStep}
 use Rattle.record.specs.Laws.{AreBytes}
 use Rattle.record.proofs.WrittenRead.{dropped}
+use Rattle.before.specs.Unversioned as Then
+use Rattle.before.specs.Unversioned.{Form, refused, finished}
 use Rattle.before.specs.Reading as Before
 use Rattle.before.specs.Laws.{noStripIn, noStrip, isShort}
 use Rattle.before.proofs.Fields.{short-allowed, channel-same, channel-short, is-step-same, judge-same, step-size, channel-size}
@@ -41,14 +42,14 @@ no-strip-field turns bytes e h =
 
 -- where the fields after this one are read as before, so are these
 module _ (turns : ℕ) (bytes : List ℕ) (cs : List Channel) (ss : List Step) (b : AreBytes bytes) (e : eqb (length bytes) 0 ≡ false) (t : hasStripTag bytes ≡ false)
-    (next : (ds : List Channel) (ts : List Step) → New.readFields turns (drop (fieldSize bytes) bytes) ds ts ≡ Before.readFields turns (drop (fieldSize bytes) bytes) ds ts) where
+    (next : (ds : List Channel) (ts : List Step) → Then.readFields turns (drop (fieldSize bytes) bytes) ds ts ≡ Before.readFields turns (drop (fieldSize bytes) bytes) ds ts) where
   judged : New.answerOf bytes cs ss ≡ Before.answerOf bytes cs ss
   judged = judge-same bytes b t (length cs) (all isMeta cs) (length ss)
 
   accepted-same : New.answerOf bytes cs ss ≡ 0
       → cond (New.isStep bytes)
-      (New.readFields turns (drop (fieldSize bytes) bytes) cs (ss ++ (fieldStep bytes ∷ [])))
-      (New.readFields turns (drop (fieldSize bytes) bytes) (cs ++ (fieldChannel bytes ∷ [])) ss)
+      (Then.readFields turns (drop (fieldSize bytes) bytes) cs (ss ++ (fieldStep bytes ∷ [])))
+      (Then.readFields turns (drop (fieldSize bytes) bytes) (cs ++ (fieldChannel bytes ∷ [])) ss)
       ≡ cond (Before.isStep bytes)
       (Before.readFields turns (drop stepSize bytes) cs (ss ++ (fieldStep bytes ∷ [])))
       (Before.readFields turns (drop channelSize bytes) (cs ++ (shortChannel bytes ∷ [])) ss)
@@ -61,14 +62,14 @@ module _ (turns : ℕ) (bytes : List ℕ) (cs : List Channel) (ss : List Step) (
       let size = channel-size bytes b t (length cs) (all isMeta cs) (length ss) z k in
       rw (← is-step-same bytes b t, k) (next (cs ++ fieldChannel bytes ∷ []) ss ∙ rw (size, channel-same bytes b t)))
 
-  turn-same : New.readFields (suc turns) bytes cs ss ≡ Before.readFields (suc turns) bytes cs ss
+  turn-same : Then.readFields (suc turns) bytes cs ss ≡ Before.readFields (suc turns) bytes cs ss
   turn-same =
       by-test (eqb (New.answerOf bytes cs ss) 0)
       (λ z. rw (e, ← judged, z) (accepted-same (eqb-true (New.answerOf bytes cs ss) 0 z)))
       (λ z. rw (e, ← judged, z))
 
 fields-same : (turns : ℕ) (bytes : List ℕ) (cs : List Channel) (ss : List Step) → AreBytes bytes → noStripIn turns bytes ≡ true
-    → New.readFields turns bytes cs ss ≡ Before.readFields turns bytes cs ss
+    → Then.readFields turns bytes cs ss ≡ Before.readFields turns bytes cs ss
 fields-same zero bytes cs ss b h = refl
 fields-same (suc turns) bytes cs ss b h =
     by-test (eqb (length bytes) 0) (λ e. rw e)
@@ -77,8 +78,8 @@ fields-same (suc turns) bytes cs ss b h =
     turn-same turns bytes cs ss b e (f .0)
     (λ ds ts. fields-same turns (drop (fieldSize bytes) bytes) ds ts (dropped bytes (fieldSize bytes) b) (f .1)))
 
-pub form-same : (bytes : List ℕ) → AreBytes bytes → noStrip bytes ≡ true → New.formOf bytes ≡ Before.formOf bytes
-unfolding New.formOf Before.formOf noStrip
+pub form-same : (bytes : List ℕ) → AreBytes bytes → noStrip bytes ≡ true → Then.formOf bytes ≡ Before.formOf bytes
+unfolding Then.formOf Before.formOf noStrip
 form-same bytes b h = fields-same (length bytes) bytes [] [] b h
 
 -- ---- what is read has no strip
@@ -94,7 +95,7 @@ with-channel bytes cs b t short =
     all-append isShort cs (fieldChannel bytes ∷ []) short (and-eq-true-iff (isShort (fieldChannel bytes)) true .1 (channel-short bytes b t, refl))
 
 fields-short : (turns : ℕ) (bytes : List ℕ) (cs : List Channel) (ss : List Step) → AreBytes bytes → noStripIn turns bytes ≡ true → all isShort cs ≡ true
-    → Short (New.readFields turns bytes cs ss)
+    → Short (Then.readFields turns bytes cs ss)
 fields-short zero bytes cs ss b h short = finished-short cs ss short
 fields-short (suc turns) bytes cs ss b h short =
     by-test (eqb (length bytes) 0)
@@ -109,8 +110,8 @@ fields-short (suc turns) bytes cs ss b h short =
     (fields-short turns (drop (fieldSize bytes) bytes) _ ss d (f .1) (with-channel bytes cs b (f .0) short)))
     refl))
 
-pub form-short : (bytes : List ℕ) → AreBytes bytes → noStrip bytes ≡ true → all isShort (New.formOf bytes .channels) ≡ true
-unfolding New.formOf noStrip
+pub form-short : (bytes : List ℕ) → AreBytes bytes → noStrip bytes ≡ true → all isShort (Then.formOf bytes .channels) ≡ true
+unfolding Then.formOf noStrip
 form-short bytes b h = fields-short (length bytes) bytes [] [] b h refl
 
 -- ---- a list without a strip and its steps are judged as before
@@ -131,13 +132,13 @@ module _ (cs : List Channel) (ss : List Step) (short : all isShort cs ≡ true) 
       let a = and-eq-true-iff (countAllowed (length cs)) (leb (S.packed ss .count) maxSteps) .0 t in
       leb-true (length cs) maxChannels (and-eq-true-iff (leb 1 (length cs)) (leb (length cs) maxChannels) .0 (a .0) .1)
 
-  judge-form-same : Plans.judgeForm (Lists.packed cs) (S.packed ss) ≡ Before.judgeForm (Lists.packed cs) (S.packed ss)
-  unfolding Plans.judgeForm Before.judgeForm
+  judge-form-same : Then.judgeForm (Lists.packed cs) (S.packed ss) ≡ Before.judgeForm (Lists.packed cs) (S.packed ss)
+  unfolding Then.judgeForm Before.judgeForm
   judge-form-same =
       by-test (countAllowed (Lists.packed cs .count) && leb (S.packed ss .count) maxSteps)
       (λ t. rw (t, allowed-same (channels (Lists.packed cs)) (rw (channels-packed cs (few t)) short)))
       (λ t. rw t)
 
-  pub judge-plan-same : Plans.judgePlan (Lists.packed cs) (S.packed ss) ≡ Before.judgePlan (Lists.packed cs) (S.packed ss)
-  unfolding Plans.judgePlan Before.judgePlan
+  pub judge-plan-same : Then.judgePlan (Lists.packed cs) (S.packed ss) ≡ Before.judgePlan (Lists.packed cs) (S.packed ss)
+  unfolding Then.judgePlan Before.judgePlan
   judge-plan-same = rw judge-form-same

@@ -1,3 +1,4 @@
+pub mod Unversioned
 pub mod Fields
 pub mod Forms
 pub mod Answers

@@ -18,7 +18,6 @@ use Rattle.list.specs.Questions.{judgeStep}
 use Rattle.list.specs.Accepted.{Accepted}
 use Rattle.list.proofs.Acceptance.{allowed-both, step-accepted}
 use Rattle.list.proofs.Kept.{stepped-allowed, stepped-keeps}
-use Rattle.plan.specs.Default.{stoppingSide}
 use Rattle.plan.specs.Coarse.{coarseCount}
 use Rattle.plan.specs.Plans.{judgeSteps, steppedAll}
 use Rattle.plan.proofs.Coarse.{count-laws}
@@ -27,7 +26,8 @@ use Rattle.plan.proofs.Turns.{by-test}
 use Rattle.record.specs.Bytes.{joined}
 use Rattle.listing.specs.Text as New
 use Rattle.listing.specs.Text.{digitsUpto}
-use Rattle.listing.specs.Listing as Listing
+use Rattle.before.specs.Unversioned as Then
+use Rattle.before.specs.Unversioned.{stoppingSide}
 use Rattle.before.specs.Listing as Before
 use Rattle.before.specs.Laws.{isShort}
 use Rattle.before.proofs.Fields.{short-sides, sides-short}
@@ -90,8 +90,8 @@ plan-short [] cs h = h
 plan-short (s ∷ ss) cs h = plan-short ss (stepped s cs) (stepped-keeps isShort smaller-short s cs h)
 
 pub plan-same : (ss : List Step) (cs : List Channel) → Accepted cs → judgeSteps ss cs ≡ 0 → length ss ≤ maxSteps → all isShort cs ≡ true
-    → Listing.planText ss (steppedAll ss cs) ≡ Before.planText ss (steppedAll ss cs)
-unfolding Listing.planText Before.planText
+    → Then.planText ss (steppedAll ss cs) ≡ Before.planText ss (steppedAll ss cs)
+unfolding Then.planText Before.planText
 plan-same ss cs ok h few short =
     let reached = steppedAll ss cs in
     let left = plan-accepted ss cs ok h in

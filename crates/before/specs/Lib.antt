@@ -1,3 +1,4 @@
+pub mod Unversioned
 pub mod Reading
 pub mod Listing
 pub mod Laws

@@ -7,11 +7,11 @@ use lib.ListN.{length}
 use Rattle.channel.specs.declared.Channel.{Channel}
 use Rattle.channel.specs.Channel.{isMeta}
 use Rattle.list.specs.declared.Step.{Step}
-use Rattle.plan.specs.Default.{stoppingSide}
 use Rattle.plan.specs.Coarse.{coarseCount}
-use Rattle.plan.specs.Plans.{meant, steppedAll}
+use Rattle.plan.specs.Plans.{steppedAll}
 use Rattle.record.specs.Bytes.{joined}
 use Rattle.listing.specs.Text.{space, newline, digitsUpto, stepsWord, channelsWord, coarseWord, refusedWord, directionWord, placeWord, metaWord}
+use Rattle.before.specs.Unversioned.{stoppingSide, meant}
 use Rattle.before.specs.Reading.{formOf, readAnswer}
 
 unfoldable pub decimal : ℕ → List ℕ

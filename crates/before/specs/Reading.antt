@@ -1,5 +1,6 @@
 -- Records before strips: document 01's "Record" and questions 1 to 4, word for word as they stood, with sides of two bytes, tags 1 and 2 alone, and a
--- question 4 that asks no side. What did not change is taken from crates record, list and plan. Definitions only.
+-- question 4 that asks no side. What did not change is taken from crates record, list and plan, and what strips did not change from
+-- specs/Unversioned.antt. Definitions only.
 use mathlib.Core.Bool.{Bool, cond, _&&_, _||_, not}
 use mathlib.Core.List.{List, [], _∷_, _++_}
 use Prim.Native.Nat.{ℕ, zero, suc, _+_}
@@ -17,10 +18,9 @@ use Rattle.list.specs.Questions.{ask, countAllowed, metaFirst, totalAllowed}
 use Rattle.plan.specs.declared.Steps.{Steps}
 use Rattle.plan.specs.Steps as S
 use Rattle.plan.specs.Steps.{steps, allFlags, flagsAllowed}
-use Rattle.plan.specs.Plans.{judgeMeant}
-use Rattle.record.specs.declared.Record.{Record}
 use Rattle.record.specs.Bytes.{channelTag, channelLength, channelSize, stepTag, stepLength, stepSize, headLength, joined, shortField, stepFields}
-use Rattle.record.specs.Reading.{Form, asked, tagOf, lengthOf, shortChannel, fieldStep, judgeStepField, finished}
+use Rattle.record.specs.Reading.{tagOf, lengthOf, shortChannel, fieldStep, judgeStepField}
+use Rattle.before.specs.Unversioned.{Form, Read, asked, finished, judgeMeant}
 
 -- ---- one field
 unfoldable pub fieldInside : List ℕ → Bool
@@ -81,7 +81,7 @@ readAnswer bytes =
     ask (eqb (formOf bytes .answer) 0) (formOf bytes .answer)
     (judgePlan (Lists.packed (formOf bytes .channels)) (S.packed (formOf bytes .steps)))
 
-unfoldable pub readOf : List ℕ → Record
+unfoldable pub readOf : List ℕ → Read
 readOf bytes =
     cond (eqb (readAnswer bytes) 0)
     (record { answer = 0; list = Lists.packed (formOf bytes .channels); steps = S.packed (formOf bytes .steps) })
