@@ -25,6 +25,8 @@ use Rattle.cuts.proofs.Together.{tiles-together}
 use Rattle.cuts.proofs.Witness.{witness}
 use Rattle.plan.specs.declared.Steps.{Steps}
 use Rattle.plan.specs.Steps.{steps}
+use Rattle.plan.specs.Version as Versions
+use Rattle.plan.specs.Version.{standardVersion}
 use Rattle.plan.specs.Plans as Plans
 use Rattle.plan.specs.Plans.{judgePlan, judgeSteps, steppedAll, meant, rewritten}
 use Rattle.plan.proofs.Runs.{none-refused, steps-total}
@@ -32,7 +34,7 @@ use Rattle.plan.proofs.Judged.{plan-answer, meant-judged, reached-back}
 use Rattle.plan.proofs.AsStandard.{list-standard}
 use Rattle.plan.proofs.DefaultStandard.{default-standard, standard-default, standard-sides, dots-standard, dots-ours}
 use Rattle.record.specs.Reading as Reading
-use Rattle.record.specs.Reading.{answerOf}
+use Rattle.record.specs.Reading.{hasVersionTag, answerOf}
 use Rattle.record.specs.Records as Records
 use Rattle.record.specs.Records.{readAnswer, channelsOf, stepsOf, writeAnswer, writtenOf, writtenBytes}
 use Rattle.record.proofs.Readings.{steps-judged}
@@ -105,11 +107,11 @@ listing-keeps : (bytes text size : List ℕ) → (listAnswer bytes text size ≡
 unfolding L.textAfter L.sizeAfter
 listing-keeps bytes text size h = let n = ne-eqb (listAnswer bytes text size) 0 h in (rw n, rw n)
 
-writer-keeps : (l : ChannelList) (s : Steps) (out : List ℕ) → (writtenOf l s out .answer ≡ 0 → ⊥) → writtenBytes l s out ≡ out
+writer-keeps : (version : ℕ) (l : ChannelList) (s : Steps) (out : List ℕ) → (writtenOf version l s out .answer ≡ 0 → ⊥) → writtenBytes version l s out ≡ out
 unfolding Records.writtenOf Records.writtenBytes
-writer-keeps l s out = by (eqb (writeAnswer l s out) 0) refl
+writer-keeps version l s out = by (eqb (writeAnswer version l s out) 0) refl
   where
-    by : (b : Bool) → eqb (writeAnswer l s out) 0 ≡ b → (writtenOf l s out .answer ≡ 0 → ⊥) → writtenBytes l s out ≡ out
+    by : (b : Bool) → eqb (writeAnswer version l s out) 0 ≡ b → (writtenOf version l s out .answer ≡ 0 → ⊥) → writtenBytes version l s out ≡ out
     by true e h = absurd (h (rw e))
     by false e h = rw e
 
@@ -125,27 +127,27 @@ refusal-keeps =
     }
 
 -- ---- a plan that is accepted
-module _ (l : ChannelList) (s : Steps) (z : rewritten l s .answer ≡ 0) where
-  judged : judgePlan l s ≡ 0
-  judged = sym (plan-answer l s (rewritten l s) refl) ∙ z
+module _ (version : ℕ) (l : ChannelList) (s : Steps) (z : rewritten version l s .answer ≡ 0) where
+  judged : judgePlan version l s ≡ 0
+  judged = sym (plan-answer version l s (rewritten version l s) refl) ∙ z
 
-  reached : channels (rewritten l s .list) ≡ steppedAll (meant (steps s) (channels l)) (channels l)
-  reached = reached-back l s judged (rewritten l s) refl
+  reached : channels (rewritten version l s .list) ≡ steppedAll (meant version (steps s) (channels l)) (channels l)
+  reached = reached-back version l s judged (rewritten version l s) refl
 
-  reached-total : total (channels (rewritten l s .list)) ≡ total (channels l)
-  reached-total = ap total reached ∙ steps-total (meant (steps s) (channels l)) (channels l)
+  reached-total : total (channels (rewritten version l s .list)) ≡ total (channels l)
+  reached-total = ap total reached ∙ steps-total (meant version (steps s) (channels l)) (channels l)
 
 -- ---- demand 2
 list-is-standard : ListIsStandard
 list-is-standard =
     record {
-      rewrites = λ l s z. rw (reached l s z) (list-standard (meant (steps s) (channels l)) (channels l) (meant-judged l s (judged l s z)));
+      rewrites = λ version l s z. rw (reached version l s z) (list-standard (meant version (steps s) (channels l)) (channels l) (meant-judged version l s (judged version l s z)));
       listed = λ bytes z. list-standard (stepsOf bytes) (channelsOf bytes) (steps-judged bytes z);
       laid-out = λ bytes z. layout-reached (stepsOf bytes) (channelsOf bytes) (steps-judged bytes z);
     }
 
 default-is-standard : DefaultIsStandard
-unfolding Plans.meant
+unfolding Versions.ruleOf Plans.meant
 default-is-standard =
     record { ours = default-standard; only = standard-default; nowhere-else = standard-sides; smallest = (dots-standard, dots-ours) }
 
@@ -163,10 +165,10 @@ program-long : (input more : List ℕ) → length input ≡ judgedBytes → prin
 unfolding L.printed
 program-long input more h = ap listing (ap (λ n. take n (input ++ more)) (sym h) ∙ take-append-seam input more)
 
--- a record whose first field is refused
-first-refused : (x : ℕ) (xs : List ℕ) (a : ℕ) → answerOf (x ∷ xs) [] [] ≡ a → (a ≡ 0 → ⊥) → readAnswer (x ∷ xs) ≡ a
-unfolding Reading.formOf Records.readAnswer
-first-refused x xs a h n = rw (ne-eqb (length (x ∷ xs)) 0 (λ e. absurd (omega arith)), h, ne-eqb a 0 n, ne-eqb a 0 n)
+-- a record whose first field is refused, and is no version
+first-refused : (x : ℕ) (xs : List ℕ) (a : ℕ) → hasVersionTag (x ∷ xs) ≡ false → answerOf (x ∷ xs) [] [] ≡ a → (a ≡ 0 → ⊥) → readAnswer (x ∷ xs) ≡ a
+unfolding Reading.fieldsOf Reading.formOf Records.readAnswer
+first-refused x xs a t h n = rw (t, ne-eqb (length (x ∷ xs)) 0 (λ e. absurd (omega arith)), h, ne-eqb a 0 n, ne-eqb a 0 n)
 
 refused-listing : (bytes : List ℕ) (a : ℕ) → readAnswer bytes ≡ a → (a ≡ 0 → ⊥) → listing bytes ≡ numbered refusedWord a
 unfolding L.listing
@@ -179,11 +181,11 @@ module _ (rest : List ℕ) where
 
   first-outside : leb 4097 (length (1 ∷ 254 ∷ 15 ∷ rest)) ≡ false → readAnswer (1 ∷ 254 ∷ 15 ∷ rest) ≡ refusedOutside
   unfolding Reading.fieldInside Reading.judgeField
-  first-outside h = first-refused 1 (254 ∷ 15 ∷ rest) refusedOutside (rw (long, h)) (λ e. absurd (omega arith))
+  first-outside h = first-refused 1 (254 ∷ 15 ∷ rest) refusedOutside refl (rw (long, h)) (λ e. absurd (omega arith))
 
   first-inside : leb 4097 (length (1 ∷ 254 ∷ 15 ∷ rest)) ≡ true → readAnswer (1 ∷ 254 ∷ 15 ∷ rest) ≡ refusedField
   unfolding Reading.fieldInside Reading.hasHead Reading.isChannel Reading.isStep Reading.judgeField
-  first-inside h = first-refused 1 (254 ∷ 15 ∷ rest) refusedField (rw (long, h)) (λ e. absurd (omega arith))
+  first-inside h = first-refused 1 (254 ∷ 15 ∷ rest) refusedField refl (rw (long, h)) (λ e. absurd (omega arith))
 
 -- of 4,097 bytes the first 4,096 are judged
 program-cut : (rest : List ℕ) → length rest ≡ 4094

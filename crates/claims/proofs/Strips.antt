@@ -30,6 +30,7 @@ use Rattle.tile.specs.Call.{Call}
 use Rattle.tile.proofs.Fitted.{thirteen}
 use Rattle.plan.specs.declared.Steps.{Steps}
 use Rattle.plan.specs.Steps as Steps
+use Rattle.plan.specs.Version as Versions
 use Rattle.plan.specs.Default as Default
 use Rattle.plan.specs.Plans as Plans
 use Rattle.plan.specs.Plans.{judgePlan}
@@ -73,8 +74,9 @@ are-bytes (suc (suc (suc (suc (suc (suc (suc (suc zero)))))))) = omega arith
 are-bytes (suc (suc (suc (suc (suc (suc (suc (suc (suc k))))))))) = omega arith
 
 -- ---- the room of a record
-record-room : (l : ChannelList) (s : Steps) → judgePlan l s ≡ 0 → length (recordFor l s) ≤ 3_840
-record-room l s ok = record-most (channels l) (Steps.steps s) (omega (arith, channels-length l, judged-counts l s ok .0)) (steps-few l s ok)
+record-room : (version : ℕ) (l : ChannelList) (s : Steps) → judgePlan version l s ≡ 0 → length (recordFor version l s) ≤ 3_844
+record-room version l s ok =
+    record-most version (channels l) (Steps.steps s) (omega (arith, channels-length l, judged-counts version l s ok .0)) (steps-few version l s ok)
 
 -- ---- the limit
 within : (cs : List Channel) → Accepted cs → SidesWithin cs
@@ -112,11 +114,11 @@ list-refused : (l : ChannelList) → countAllowed (l .count) ≡ true → (k : �
 unfolding Questions.judgeList
 list-refused l n k h a = rw (n, one-refused (channels l) k h a)
 
-numbers-refused : (ns ms : List ℕ) → (countAllowed (groups channelNumbers ns) && leb (groups stepNumbers ms) maxSteps) ≡ true → (k : ℕ)
+numbers-refused : (version : ℕ) (ns ms : List ℕ) → (countAllowed (groups channelNumbers ns) && leb (groups stepNumbers ms) maxSteps) ≡ true → (k : ℕ)
     → k < length (Numbered.channelsOf ns) → Above (channelOf (Numbered.channelsOf ns) k .width) (channelOf (Numbered.channelsOf ns) k .height)
-    → judgeNumbers ns ms ≡ refusedForm
+    → judgeNumbers version ns ms ≡ refusedForm
 unfolding Numbered.judgeNumbers
-numbers-refused ns ms n k h a = rw (n, one-refused (Numbered.channelsOf ns) k h a)
+numbers-refused version ns ms n k h a = rw (n, one-refused (Numbered.channelsOf ns) k h a)
 
 module _ (bytes : List ℕ) (count : ℕ) (metas : Bool) (n : count < maxChannels) where
   form-refused : (channelAllowed (fieldChannel bytes) metas && tagAllowed bytes) ≡ false → judgeChannelField bytes count metas ≡ refusedForm
@@ -161,16 +163,16 @@ unfolding
     Questions.countAllowed Questions.channelsAllowed Questions.totalAllowed Questions.rangeAllowed Questions.kindsAlike Questions.placeAllowed Questions.hasSides Questions.shiftsKept Questions.roomLeft Questions.judgeList Questions.judgeStep
     Tile.areaAllowed Tile.areasAllowed Tile.sidesSmall Tile.sidesFit Tile.lineFits Tile.sizesFit Tile.slicesFit Tile.answer
     Steps.flagsOf Steps.flagsAllowed Steps.steps Steps.allFlags Steps.packed
-    Default.metaCount Default.chroma Default.rounds Default.allChannels Default.defaultSteps
+    Versions.isVersion Versions.ruleOf Default.metaCount Default.chroma Default.rounds Default.allChannels Default.defaultSteps
     Plans.hasOther Plans.meant Plans.meantAllowed Plans.judgeForm Plans.judgeMeant Plans.judgePlan
-    Bytes.isStrip Bytes.shortField Bytes.stripField Bytes.channelField Bytes.stepField Bytes.recordOf
-    Reading.fieldChannel Reading.fieldInside Reading.hasHead Reading.isChannel Reading.isStep Reading.channelAllowed Reading.tagAllowed Reading.judgeChannelField Reading.judgeStepField Reading.judgeField Reading.formOf
+    Bytes.isStrip Bytes.shortField Bytes.stripField Bytes.channelField Bytes.stepField Bytes.versionField Bytes.listFields Bytes.recordOf
+    Reading.fieldChannel Reading.fieldInside Reading.hasHead Reading.isChannel Reading.isStep Reading.channelAllowed Reading.tagAllowed Reading.judgeChannelField Reading.judgeStepField Reading.judgeField Reading.fieldsOf Reading.judgeVersionField Reading.formOf
     Records.readAnswer Before.noStrip
     Text.decimal Text.channelLine
     Rect.groupAllowed Rect.whole Rect.tile Rect.tileUnlessMeta Rect.byKinds Rect.rectOf
 strips =
     record {
-      old-records = record { read = read-as-before; written = written-as-before; witness = (are-bytes, refl, refl) };
+      old-records = record { read = read-as-before; written = written-as-before; witness = (are-bytes, refl, refl, refl) };
       mixed-accepted = refl;
       room = record { records = record-room; judged = omega arith; listings = listing-room };
       longest-default = longest-default;

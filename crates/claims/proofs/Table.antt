@@ -10,6 +10,7 @@ use Rattle.rect.specs.Rect as Rect
 use Rattle.list.specs.Lists as Lists
 use Rattle.list.specs.Questions as Questions
 use Rattle.plan.specs.Steps as Steps
+use Rattle.plan.specs.Version as Versions
 use Rattle.plan.specs.Default as Default
 use Rattle.plan.specs.Coarse as Coarse
 use Rattle.plan.specs.Plans as Plans
@@ -30,9 +31,9 @@ unfolding
     Lists.channels Lists.packed Lists.raised Lists.average Lists.residual Lists.stepped
     Questions.countAllowed Questions.channelsAllowed Questions.totalAllowed Questions.rangeAllowed Questions.kindsAlike Questions.placeAllowed Questions.hasSides Questions.shiftsKept Questions.roomLeft Questions.judgeStep
     Steps.flagsOf Steps.flagsAllowed Steps.steps Steps.allFlags Steps.packed
-    Default.metaCount Default.chroma Default.rounds Default.allChannels Default.defaultSteps Coarse.isCoarse Coarse.coarseCount
+    Versions.isVersion Versions.ruleOf Default.metaCount Default.chroma Default.rounds Default.allChannels Default.defaultSteps Coarse.isCoarse Coarse.coarseCount
     Plans.hasOther Plans.meant Plans.meantAllowed Plans.judgeForm Plans.judgeMeant Plans.judgePlan
-    Reading.fieldChannel Reading.fieldInside Reading.hasHead Reading.isChannel Reading.isStep Reading.channelAllowed Reading.tagAllowed Reading.judgeChannelField Reading.judgeStepField Reading.judgeField Reading.formOf
+    Reading.fieldChannel Reading.fieldInside Reading.hasHead Reading.isChannel Reading.isStep Reading.channelAllowed Reading.tagAllowed Reading.judgeChannelField Reading.judgeStepField Reading.judgeField Reading.fieldsOf Reading.judgeVersionField Reading.formOf
     Records.readAnswer
     Text.decimal Text.stepLine Text.channelLine
     Listing.planText Listing.listing

@@ -23,6 +23,7 @@ use Rattle.cuts.specs.Claim.{GiveUncut}
 use Rattle.cuts.specs.Witness.{Witness}
 use Rattle.plan.specs.declared.Steps.{Steps}
 use Rattle.plan.specs.Steps.{steps}
+use Rattle.plan.specs.Version.{standardVersion}
 use Rattle.plan.specs.Plans.{meant, rewritten}
 use Rattle.plan.specs.Default.{step}
 use Rattle.plan.specs.Standard.{StandardSteps}
@@ -48,23 +49,24 @@ pub record RefusalKeeps : Type 0 where
       → Rect.numbersAfter c output stored group gx gy numbers ≡ numbers
   pub listing : (bytes text size : List ℕ) → (listAnswer bytes text size ≡ 0 → ⊥) → (textAfter bytes text size ≡ text) × (sizeAfter bytes text size ≡ size)
   pub from-numbers : Numbered.RefusalKeeps
-  pub record-writer : (l : ChannelList) (s : Steps) (out : List ℕ) → (writtenOf l s out .answer ≡ 0 → ⊥) → writtenBytes l s out ≡ out
+  pub record-writer : (version : ℕ) (l : ChannelList) (s : Steps) (out : List ℕ) → (writtenOf version l s out .answer ≡ 0 → ⊥) → writtenBytes version l s out ≡ out
 
 -- ---- demand 2: "each equals the Rust's on the domain in 01, and on it equals ISO/IEC 18181-1"
 -- the channel list that a plan reaches: what `rewrite` gives, what the listing prints of a record, and the layout of a whole run
 pub record ListIsStandard : Type 0 where
-  pub rewrites : (l : ChannelList) (s : Steps) → rewritten l s .answer ≡ 0
-      → StandardSteps (meant (steps s) (channels l)) (channels l) (channels (rewritten l s .list))
+  pub rewrites : (version : ℕ) (l : ChannelList) (s : Steps) → rewritten version l s .answer ≡ 0
+      → StandardSteps (meant version (steps s) (channels l)) (channels l) (channels (rewritten version l s .list))
   pub listed : (bytes : List ℕ) → readAnswer bytes ≡ 0 → StandardSteps (stepsOf bytes) (channelsOf bytes) (reachedOf bytes)
   pub laid-out : (bytes : List ℕ) → readAnswer bytes ≡ 0 → layout (stepsOf bytes) (channelsOf bytes) ≡ reachedOf bytes
 
--- the default plan, where document 01 does not decide otherwise: its steps are the standard's, no others are, and nowhere else are they
+-- the default plan of version 1, which alone they measure ("Of default plans, Rust and standard measure version 1 only"), where document 01 does not
+-- decide otherwise: its steps are the standard's, no others are, and nowhere else are they
 pub record DefaultIsStandard : Type 0 where
-  pub ours : (cs : List Channel) → ChromaSidesAbove1 cs → StandardDefault cs (meant [] cs)
-  pub only : (cs : List Channel) → ChromaSidesAbove1 cs → (ss : List Step) → StandardDefault cs ss → ss ≡ meant [] cs
-  pub nowhere-else : (cs : List Channel) → StandardDefault cs (meant [] cs) → ChromaSidesAbove1 cs
+  pub ours : (cs : List Channel) → ChromaSidesAbove1 cs → StandardDefault cs (meant standardVersion [] cs)
+  pub only : (cs : List Channel) → ChromaSidesAbove1 cs → (ss : List Step) → StandardDefault cs ss → ss ≡ meant standardVersion [] cs
+  pub nowhere-else : (cs : List Channel) → StandardDefault cs (meant standardVersion [] cs) → ChromaSidesAbove1 cs
   -- three channels 1 by 1: the standard has two chroma steps, document 01 none
-  pub smallest : StandardDefault dots (step true false 1 2 ∷ step false false 1 2 ∷ []) × (meant [] dots ≡ [])
+  pub smallest : StandardDefault dots (step true false 1 2 ∷ step false false 1 2 ∷ []) × (meant standardVersion [] dots ≡ [])
 
 -- the picture, where every sample read or made in any step lies in the domain
 abbrev pub PictureIsStandard : Type 0
@@ -76,9 +78,9 @@ PictureIsStandard = (bytes : List ℕ) (pyramid picture work : List ℤ) → Sam
 -- "The sample total stays.": along any list of steps, refused ones included, and in the list that `rewrite` gives
 pub record TotalStays : Type 0 where
   pub laid-out : (ss : List Step) (cs : List Channel) → total (layout ss cs) ≡ total cs
-  pub rewrites : (l : ChannelList) (s : Steps) → rewritten l s .answer ≡ 0 → total (channels (rewritten l s .list)) ≡ total (channels l)
+  pub rewrites : (version : ℕ) (l : ChannelList) (s : Steps) → rewritten version l s .answer ≡ 0 → total (channels (rewritten version l s .list)) ≡ total (channels l)
 
--- "Reading and writing undo each other", and a list and its steps have one record; a record from numbers is the writer's, and reads as the numbers
+-- "Reading and writing undo each other", the version among what is read and written, and a version, a list and its steps have one record; a record from numbers is the writer's, and reads as the numbers
 -- say
 pub record RecordUndone : Type 0 where
   pub read-written : ReadWrittenLaw

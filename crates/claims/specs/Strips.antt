@@ -19,10 +19,11 @@ use Rattle.tile.specs.Call.{Call}
 use Rattle.plan.specs.declared.Steps.{Steps}
 use Rattle.plan.specs.Steps as S
 use Rattle.plan.specs.Default.{step}
+use Rattle.plan.specs.Version.{standardVersion}
 use Rattle.plan.specs.Plans.{judgePlan}
 use Rattle.plan.specs.Longest.{LongestDefault}
 use Rattle.record.specs.Bytes.{isStrip, stripField, channelField}
-use Rattle.record.specs.Reading.{hasStripTag, fieldChannel, judgeChannelField, answerOf, formOf}
+use Rattle.record.specs.Reading.{hasStripTag, hasVersionTag, fieldChannel, judgeChannelField, answerOf, formOf}
 use Rattle.record.specs.Records.{readAnswer, channelsOf, reachedOf, recordFor}
 use Rattle.record.specs.Laws.{AreBytes}
 use Rattle.listing.specs.Text.{space, newline, decimal, valueFrom, channelLine}
@@ -39,7 +40,7 @@ pub record OldRecords : Type 0 where
   pub read : ReadAsBeforeLaw
   pub written : WrittenAsBeforeLaw
   -- document 01's record is such a one
-  pub witness : AreBytes record20by9 × (noStrip record20by9 ≡ true) × (readAnswer record20by9 ≡ 0)
+  pub witness : AreBytes record20by9 × (noStrip record20by9 ≡ true) × (hasVersionTag record20by9 ≡ false) × (readAnswer record20by9 ≡ 0)
 
 -- ---- both tags mixed: a meta strip, a channel of tag 1 and two strips, with a step
 abbrev pub mixed : List Channel
@@ -50,9 +51,9 @@ mixed =
     ∷ channel 3 1_048_575 ∷ []
 
 pub record Room : Type 0 where
-  -- "the first 4,096 bytes every record": 256 fields of tag 3 and 64 steps are 3,840
-  pub records : (l : ChannelList) (s : Steps) → judgePlan l s ≡ 0 → length (recordFor l s) ≤ 3_840
-  pub judged : 3_840 ≤ judgedBytes
+  -- "the first 4,096 bytes every record": 256 fields of tag 3 and 64 steps are 3,840, a version is 4 more
+  pub records : (version : ℕ) (l : ChannelList) (s : Steps) → judgePlan version l s ≡ 0 → length (recordFor version l s) ≤ 3_844
+  pub judged : 3_844 ≤ judgedBytes
   pub listings : (bytes : List ℕ) → readAnswer bytes ≡ 0 → length (listing bytes) ≤ listingRoom
 
 -- ---- no side above the limit: of a list that is judged, and of a record that is accepted, before its plan and after it
@@ -76,9 +77,9 @@ pub record Limit : Type 0 where
   -- is not one too many, and in any rectangle call
   pub list-refused : (l : ChannelList) → countAllowed (l .count) ≡ true → (k : ℕ) → k < length (channels l)
       → Above (channelOf (channels l) k .width) (channelOf (channels l) k .height) → judgeList l ≡ refusedForm
-  pub numbers-refused : (ns ms : List ℕ) → (countAllowed (groups channelNumbers ns) && leb (groups stepNumbers ms) maxSteps) ≡ true → (k : ℕ)
+  pub numbers-refused : (version : ℕ) (ns ms : List ℕ) → (countAllowed (groups channelNumbers ns) && leb (groups stepNumbers ms) maxSteps) ≡ true → (k : ℕ)
       → k < length (Numbered.channelsOf ns) → Above (channelOf (Numbered.channelsOf ns) k .width) (channelOf (Numbered.channelsOf ns) k .height)
-      → judgeNumbers ns ms ≡ refusedForm
+      → judgeNumbers version ns ms ≡ refusedForm
   pub field-refused : (bytes : List ℕ) (count : ℕ) (metas : Bool) → count < maxChannels → Above (fieldChannel bytes .width) (fieldChannel bytes .height)
       → judgeChannelField bytes count metas ≡ refusedForm
   pub rect-refused : (c : Channel) (output stored group gx gy : ℕ) → Above (c .width) (c .height) → rectOf c output stored group gx gy ≡ refused refusedForm
@@ -105,7 +106,7 @@ pub record Rows : Type 0 where
   pub written-strip : channelField (channel 65_536 1) ≡ 3 ∷ 10 ∷ 0 ∷ 0 ∷ 0 ∷ 1 ∷ 0 ∷ 1 ∷ 0 ∷ 0 ∷ 0 ∷ 0 ∷ 0 ∷ []
   pub strip-for-short : formOf (stripField (channel 65_535 65_535)) .answer ≡ refusedForm
   pub strip-above : formOf (stripField (channel 1_048_576 1)) .answer ≡ refusedForm
-  pub strip-read : formOf (stripField (channel 1_048_575 16)) ≡ record { answer = 0; channels = channel 1_048_575 16 ∷ []; steps = [] }
+  pub strip-read : formOf (stripField (channel 1_048_575 16)) ≡ record { answer = 0; version = standardVersion; channels = channel 1_048_575 16 ∷ []; steps = [] }
   -- length 6 under tag 3
   pub length-six : formOf (3 ∷ 6 ∷ 0 ∷ 0 ∷ 0 ∷ 1 ∷ 0 ∷ 1 ∷ 0 ∷ []) .answer ≡ refusedField
   -- "tag 3 otherwise stands wherever tag 1 may": after a channel, and not after a step
@@ -125,9 +126,9 @@ pub record Rows : Type 0 where
 
 pub record Strips : Type 0 where
   pub old-records : OldRecords
-  pub mixed-accepted : judgePlan (packed mixed) (S.packed (step true true 1 2 ∷ [])) ≡ 0
+  pub mixed-accepted : judgePlan standardVersion (packed mixed) (S.packed (step true true 1 2 ∷ [])) ≡ 0
   pub room : Room
-  -- at most 20 steps, and 20 for one list
+  -- at most 20 steps, 15 under version 2, and as many for one list
   pub longest-default : LongestDefault
   pub limit : Limit
   pub rows : Rows

@@ -9,7 +9,8 @@ use Rattle.list.specs.declared.Step.{Step}
 use Rattle.tendency.specs.Tendency.{tendency}
 use Rattle.pair.specs.Pair.{first, second}
 use Rattle.line.specs.Uncut.{squeeze, uncut}
-use Rattle.plan.specs.Default.{stoppingSide, step, defaultSteps}
+use Rattle.plan.specs.Version.{standardVersion, ruleOf}
+use Rattle.plan.specs.Default.{step, defaultSteps}
 use Rattle.rect.specs.Rect.{rectOf}
 use Rattle.listing.specs.Text.{space, newline}
 use Rattle.listing.specs.Listing.{listing}
@@ -27,7 +28,7 @@ abbrev pub channel : ℕ → ℕ → Channel
 channel width height = record { width = width; height = height; hshift = 0; vshift = 0 }
 
 abbrev pub planOf : ℕ → ℕ → List Step
-planOf width height = defaultSteps stoppingSide (channel width height ∷ [])
+planOf width height = defaultSteps (ruleOf standardVersion) (channel width height ∷ [])
 
 abbrev pub horizontal : Step
 horizontal = step true true 0 1

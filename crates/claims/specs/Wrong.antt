@@ -1,22 +1,26 @@
--- Programs that must not get through (document 01, "Contract by contract", c; document 02, A.2): what each would leave in the slice that it fills,
+-- Programs that must not get through (document 01, "Contract by contract", c; document 02, A.2 and A.11): what each would leave in the slice that it fills,
 -- or print as the coarse count. None agrees with the contracts of `squeeze_rebuild`, `squeeze_write` and `squeeze_listing`. Statements only;
--- proofs/Wrong.antt proves them by three records.
+-- proofs/Wrong.antt proves them by four records.
 use mathlib.Core.Path.{_≡_}
 use mathlib.Core.Bool.{Bool, cond}
+use mathlib.Core.Logic.{_⊎_}
 use mathlib.Core.List.{List, [], _∷_}
 use Prim.Native.Nat.{ℕ, _+_, _-_}
 use lib.IntN.{ℤ}
+use lib.Dec.{eqb}
 use lib.ListN.{length}
 use Rattle.channel.specs.declared.Channel.{Channel}
 use Rattle.list.specs.declared.Step.{Step}
 use Rattle.list.specs.Lists.{stepped}
-use Rattle.plan.specs.Default.{stoppingSide, leading, metaCount}
+use Rattle.plan.specs.Version.{standardSide, houseSide}
+use Rattle.plan.specs.Default.{leading, metaCount}
 use Rattle.plan.specs.Coarse.{isSmall, isCoarse, coarseCount}
+use Rattle.record.specs.Reading.{formOf}
 use Rattle.record.specs.Records.{readAnswer, channelsOf, stepsOf, reachedOf}
 use Rattle.buffer.specs.Buffer.{zeros}
 use Rattle.runs.specs.Runs.{stepBack, stepForward}
 use Rattle.squeeze.specs.Entry.{answer, pictureOf, pyramidOf}
-use Rattle.claims.specs.Coarse.{coarseOf}
+use Rattle.claims.specs.Coarse.{sideOf, coarseOf}
 
 -- the filled slice afterwards, from the record, the slice that is read and the slices as they came
 abbrev pub Program : Type 0
@@ -78,11 +82,11 @@ abbrev pub everyChannel : Count
 everyChannel bytes = length (reachedOf bytes)
 
 abbrev pub beforeThePlan : Count
-beforeThePlan bytes = coarseCount stoppingSide (channelsOf bytes)
+beforeThePlan bytes = coarseCount (sideOf bytes) (channelsOf bytes)
 
 -- meta channels only up to the stopping side; meta channels left out; coarse channels counted on past the first other one
 abbrev pub smallOnly : Count
-smallOnly bytes = leading (isSmall stoppingSide) (reachedOf bytes)
+smallOnly bytes = leading (isSmall (sideOf bytes)) (reachedOf bytes)
 
 abbrev pub metasLeftOut : Count
 metasLeftOut bytes = coarseOf bytes - metaCount (reachedOf bytes)
@@ -92,7 +96,14 @@ among p [] = 0
 among p (c ∷ cs) = cond (p c) 1 0 + among p cs
 
 abbrev pub countedOn : Count
-countedOn bytes = among (isCoarse stoppingSide) (reachedOf bytes)
+countedOn bytes = among (isCoarse (sideOf bytes)) (reachedOf bytes)
+
+-- A.11: "side 8 for the coarse count under version 2 (or 32 under 1)"; "version 2 only honoured where the plan is the default's"
+abbrev pub bySide : ℕ → Count
+bySide side bytes = coarseCount side (reachedOf bytes)
+
+abbrev pub byDefaultOnly : Count
+byDefaultOnly bytes = coarseCount (cond (eqb (length (formOf bytes .steps)) 0) (sideOf bytes) standardSide) (reachedOf bytes)
 
 pub record Wrong : Type 0 where
   pub picture-copied : Refuted pictureOf copies
@@ -111,3 +122,5 @@ pub record Wrong : Type 0 where
   pub count-small-only : CountRefuted smallOnly
   pub count-metas-left-out : CountRefuted metasLeftOut
   pub count-counted-on : CountRefuted countedOn
+  pub count-by-one-side : (side : ℕ) → (side ≡ standardSide) ⊎ (side ≡ houseSide) → CountRefuted (bySide side)
+  pub count-by-default-only : CountRefuted byDefaultOnly

@@ -16,7 +16,7 @@ use Rattle.plan.proofs.Judged.{judged-counts}
 use Rattle.record.specs.declared.Record.{Record}
 use Rattle.record.specs.Bytes.{recordOf}
 use Rattle.record.specs.Reading.{Form, formOf}
-use Rattle.record.specs.Records.{readAnswer, reachedOf}
+use Rattle.record.specs.Records.{readAnswer, versionOf, reachedOf}
 use Rattle.record.specs.Laws.{ReadWritten}
 use Rattle.record.proofs.Readings.{read-answer}
 use Rattle.record.proofs.ReadWritten.{read-written}
@@ -32,11 +32,14 @@ module _ (version : ℕ) (cs : List Channel) (ss : List Step) (ok : judgePlan ve
   written : ReadWritten version (Lists.packed cs) (S.packed ss)
   written = read-written version (Lists.packed cs) (S.packed ss) ok
 
-  record-form : formOf (recordOf version cs ss) ≡ record { answer = 0; version = version; channels = cs; steps = ss }
+  pub record-form : formOf (recordOf version cs ss) ≡ record { answer = 0; version = version; channels = cs; steps = ss }
   record-form = rw (same-channels, same-steps) at (written .form)
 
   pub record-accepted : readAnswer (recordOf version cs ss) ≡ 0
   record-accepted = sym (read-answer (recordOf version cs ss) _ refl) ∙ ap (λ (r : Record). r .answer) (rw (same-channels, same-steps) at (written .read))
+
+  pub record-version : versionOf (recordOf version cs ss) ≡ version
+  record-version = ap (λ (f : Form). f .version) record-form
 
   pub record-reached : reachedOf (recordOf version cs ss) ≡ steppedAll (meant version ss cs) cs
   record-reached = ap (λ (f : Form). steppedAll (meant (f .version) (f .steps) (f .channels)) (f .channels)) record-form
