@@ -21,7 +21,7 @@ use Rattle.list.proofs.Maps.{all-append}
 use Rattle.list.proofs.Packed.{channels-packed}
 use Rattle.plan.specs.Steps as S
 use Rattle.plan.proofs.Turns.{by-test}
-use Rattle.record.specs.Bytes.{stepSize, channelSize}
+use Rattle.record.specs.Bytes.{stripTag, stepSize, channelSize}
 use Rattle.record.specs.Reading as New
 use Rattle.record.specs.Reading.{fieldSize, hasStripTag, shortChannel, fieldChannel, fieldStep}
 use Rattle.record.specs.Laws.{AreBytes}
@@ -29,15 +29,15 @@ use Rattle.record.proofs.WrittenRead.{dropped}
 use Rattle.before.specs.Unversioned as Then
 use Rattle.before.specs.Unversioned.{Form, refused, finished}
 use Rattle.before.specs.Reading as Before
-use Rattle.before.specs.Laws.{noStripIn, noStrip, isShort}
+use Rattle.before.specs.Laws.{noTagIn, noTag, noStrip, isShort}
 use Rattle.before.proofs.Fields.{short-allowed, channel-same, channel-short, is-step-same, judge-same, step-size, channel-size}
 
 -- ---- the fields
 -- a field that is not the end: it has another tag, and so have those after it
-no-strip-field : (turns : ℕ) (bytes : List ℕ) → eqb (length bytes) 0 ≡ false → noStripIn (suc turns) bytes ≡ true
-    → (hasStripTag bytes ≡ false) × (noStripIn turns (drop (fieldSize bytes) bytes) ≡ true)
+no-strip-field : (turns : ℕ) (bytes : List ℕ) → eqb (length bytes) 0 ≡ false → noTagIn stripTag (suc turns) bytes ≡ true
+    → (hasStripTag bytes ≡ false) × (noTagIn stripTag turns (drop (fieldSize bytes) bytes) ≡ true)
 no-strip-field turns bytes e h =
-    let a = and-eq-true-iff (not (hasStripTag bytes)) (noStripIn turns (drop (fieldSize bytes) bytes)) .0 (rw e at h) in
+    let a = and-eq-true-iff (not (hasStripTag bytes)) (noTagIn stripTag turns (drop (fieldSize bytes) bytes)) .0 (rw e at h) in
     (not-true (hasStripTag bytes) (a .0), a .1)
 
 -- where the fields after this one are read as before, so are these
@@ -68,7 +68,7 @@ module _ (turns : ℕ) (bytes : List ℕ) (cs : List Channel) (ss : List Step) (
       (λ z. rw (e, ← judged, z) (accepted-same (eqb-true (New.answerOf bytes cs ss) 0 z)))
       (λ z. rw (e, ← judged, z))
 
-fields-same : (turns : ℕ) (bytes : List ℕ) (cs : List Channel) (ss : List Step) → AreBytes bytes → noStripIn turns bytes ≡ true
+fields-same : (turns : ℕ) (bytes : List ℕ) (cs : List Channel) (ss : List Step) → AreBytes bytes → noTagIn stripTag turns bytes ≡ true
     → Then.readFields turns bytes cs ss ≡ Before.readFields turns bytes cs ss
 fields-same zero bytes cs ss b h = refl
 fields-same (suc turns) bytes cs ss b h =
@@ -79,7 +79,7 @@ fields-same (suc turns) bytes cs ss b h =
     (λ ds ts. fields-same turns (drop (fieldSize bytes) bytes) ds ts (dropped bytes (fieldSize bytes) b) (f .1)))
 
 pub form-same : (bytes : List ℕ) → AreBytes bytes → noStrip bytes ≡ true → Then.formOf bytes ≡ Before.formOf bytes
-unfolding Then.formOf Before.formOf noStrip
+unfolding Then.formOf Before.formOf noTag
 form-same bytes b h = fields-same (length bytes) bytes [] [] b h
 
 -- ---- what is read has no strip
@@ -94,7 +94,7 @@ with-channel : (bytes : List ℕ) (cs : List Channel) → AreBytes bytes → has
 with-channel bytes cs b t short =
     all-append isShort cs (fieldChannel bytes ∷ []) short (and-eq-true-iff (isShort (fieldChannel bytes)) true .1 (channel-short bytes b t, refl))
 
-fields-short : (turns : ℕ) (bytes : List ℕ) (cs : List Channel) (ss : List Step) → AreBytes bytes → noStripIn turns bytes ≡ true → all isShort cs ≡ true
+fields-short : (turns : ℕ) (bytes : List ℕ) (cs : List Channel) (ss : List Step) → AreBytes bytes → noTagIn stripTag turns bytes ≡ true → all isShort cs ≡ true
     → Short (Then.readFields turns bytes cs ss)
 fields-short zero bytes cs ss b h short = finished-short cs ss short
 fields-short (suc turns) bytes cs ss b h short =
@@ -111,7 +111,7 @@ fields-short (suc turns) bytes cs ss b h short =
     refl))
 
 pub form-short : (bytes : List ℕ) → AreBytes bytes → noStrip bytes ≡ true → all isShort (Then.formOf bytes .channels) ≡ true
-unfolding Then.formOf noStrip
+unfolding Then.formOf noTag
 form-short bytes b h = fields-short (length bytes) bytes [] [] b h refl
 
 -- ---- a list without a strip and its steps are judged as before

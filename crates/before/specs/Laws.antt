@@ -10,9 +10,9 @@ use Rattle.channel.specs.declared.Channel.{Channel}
 use Rattle.list.specs.declared.Step.{Step}
 use Rattle.list.specs.Tables.{all}
 use Rattle.plan.specs.Version.{standardVersion}
-use Rattle.record.specs.Bytes.{isStrip, recordOf}
+use Rattle.record.specs.Bytes.{stripTag, isStrip, recordOf}
 use Rattle.record.specs.declared.Record.{Record}
-use Rattle.record.specs.Reading.{Form, fieldSize, hasStripTag, hasVersionTag, formOf}
+use Rattle.record.specs.Reading.{Form, tagOf, fieldSize, hasVersionTag, formOf}
 use Rattle.record.specs.Records.{readAnswer, readOf, stepsOf}
 use Rattle.record.specs.Laws.{AreBytes}
 use Rattle.listing.specs.Listing.{listing}
@@ -20,14 +20,17 @@ use Rattle.before.specs.Unversioned as Unversioned
 use Rattle.before.specs.Reading as Before
 use Rattle.before.specs.Listing as BeforeText
 
--- no field has tag 3: fields by their stated lengths, as many turns as bytes
-abbrev pub noStripIn : ℕ → List ℕ → Bool
-noStripIn zero bytes = true
-noStripIn (suc turns) bytes =
-    cond (eqb (length bytes) 0) true (not (hasStripTag bytes) && noStripIn turns (drop (fieldSize bytes) bytes))
+-- no field has the given tag: fields by their stated lengths, as many turns as bytes
+abbrev pub noTagIn : ℕ → ℕ → List ℕ → Bool
+noTagIn tag zero bytes = true
+noTagIn tag (suc turns) bytes =
+    cond (eqb (length bytes) 0) true (not (eqb (tagOf bytes) tag) && noTagIn tag turns (drop (fieldSize bytes) bytes))
 
-unfoldable pub noStrip : List ℕ → Bool
-noStrip bytes = noStripIn (length bytes) bytes
+unfoldable pub noTag : ℕ → List ℕ → Bool
+noTag tag bytes = noTagIn tag (length bytes) bytes
+
+abbrev pub noStrip : List ℕ → Bool
+noStrip bytes = noTag stripTag bytes
 
 -- what a form and a reading of then are now: with version 1, or with none where they are refused
 abbrev pub versionThen : ℕ → ℕ

@@ -167,7 +167,7 @@ unfolding
     Plans.hasOther Plans.meant Plans.meantAllowed Plans.judgeForm Plans.judgeMeant Plans.judgePlan
     Bytes.isStrip Bytes.shortField Bytes.stripField Bytes.channelField Bytes.stepField Bytes.versionField Bytes.listFields Bytes.recordOf
     Reading.fieldChannel Reading.fieldInside Reading.hasHead Reading.isChannel Reading.isStep Reading.channelAllowed Reading.tagAllowed Reading.judgeChannelField Reading.judgeStepField Reading.judgeField Reading.fieldsOf Reading.judgeVersionField Reading.formOf
-    Records.readAnswer Before.noStrip
+    Records.readAnswer Before.noTag
     Text.decimal Text.channelLine
     Rect.groupAllowed Rect.whole Rect.tile Rect.tileUnlessMeta Rect.byKinds Rect.rectOf
 strips =

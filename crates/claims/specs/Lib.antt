@@ -2,4 +2,5 @@ pub mod Table
 pub mod Demands
 pub mod Coarse
 pub mod Strips
+pub mod House
 pub mod Wrong

@@ -1,6 +1,6 @@
 -- The laws of the coarse count (specs/Coarse.antt). Rests on laws of `leading`, whatever the test is. Assumes nothing.
 use mathlib.Core.Path.{_≡_, refl, sym, ap, _∙_}
-use mathlib.Core.Bool.{Bool, true, false, not, cond, true≢false, and-eq-true-iff}
+use mathlib.Core.Bool.{Bool, true, false, not, cond, true≢false, and-eq-true-iff, or-true}
 use mathlib.Core.List.{List, [], _∷_}
 use Prim.Native.Nat.{ℕ, zero, suc, _+_, _<_, _≤_}
 use native.Mathlib.Omega.{arith}
@@ -22,7 +22,7 @@ use Rattle.plan.specs.Coarse.{isSmall, isCoarse, coarseCount, coarseOf, 
 
 -- ---- the leading channels that pass a test
 module _ (p : Channel → Bool) where
-  leading-within : (cs : List Channel) → leading p cs ≤ length cs
+  pub leading-within : (cs : List Channel) → leading p cs ≤ length cs
   leading-within [] = omega arith
   leading-within (c ∷ cs) = go (p c) (leading-within cs)
     where
@@ -30,7 +30,7 @@ module _ (p : Channel → Bool) where
       go true h = omega arith
       go false h = omega arith
 
-  leading-counted : (cs : List Channel) (k : ℕ) → k < leading p cs → p (channelOf cs k) ≡ true
+  pub leading-counted : (cs : List Channel) (k : ℕ) → k < leading p cs → p (channelOf cs k) ≡ true
   leading-counted [] k h = absurd (omega arith)
   leading-counted (c ∷ cs) k h = go (p c) refl k (leading-counted cs) h
     where
@@ -75,7 +75,7 @@ module _ (p q : Channel → Bool) where
 
 -- ---- the coarse count
 module _ (stop : ℕ) where
-  meta-coarse : (c : Channel) → isMeta c ≡ true → isCoarse stop c ≡ true
+  pub meta-coarse : (c : Channel) → isMeta c ≡ true → isCoarse stop c ≡ true
   unfolding isCoarse
   meta-coarse c e = rw e
 
@@ -95,6 +95,10 @@ module _ (stop : ℕ) where
 
   sides-small : (c : Channel) → (c .width ≤ stop) × (c .height ≤ stop) → isSmall stop c ≡ true
   sides-small c s = and-eq-true-iff (leb (c .width) stop) (leb (c .height) stop) .1 (le-leb (c .width) stop (s .0), le-leb (c .height) stop (s .1))
+
+  pub small-coarse : (c : Channel) → (c .width ≤ stop) × (c .height ≤ stop) → isCoarse stop c ≡ true
+  unfolding isCoarse
+  small-coarse c s = rw (sides-small c s) (or-true (isMeta c))
 
   all-small : (cs : List Channel) → coarseCount stop cs ≡ length cs → OthersSmall stop cs
   unfolding coarseCount

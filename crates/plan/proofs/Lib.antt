@@ -15,3 +15,4 @@ pub mod Judged
 pub mod AsStandard
 pub mod DefaultStandard
 pub mod Longest
+pub mod Preview

@@ -8,3 +8,4 @@ pub mod Counted
 pub mod Standard
 pub mod StandardDefault
 pub mod Longest
+pub mod DefaultLaws

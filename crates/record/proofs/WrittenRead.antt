@@ -112,7 +112,7 @@ Versioned version form = form .answer ≡ 0 → form .version ≡ version
 finished-version : (version : ℕ) (cs : List Channel) (ss : List Step) → Versioned version (finished version cs ss)
 finished-version version cs ss = cond-has (Versioned version) (leb 1 (length cs)) _ (refused refusedCount) (λ z. refl) (λ z. absurd (omega arith))
 
-fields-version : (version turns : ℕ) (bytes : List ℕ) (cs : List Channel) (ss : List Step) → Versioned version (readFields version turns bytes cs ss)
+pub fields-version : (version turns : ℕ) (bytes : List ℕ) (cs : List Channel) (ss : List Step) → Versioned version (readFields version turns bytes cs ss)
 fields-version version zero bytes cs ss = finished-version version cs ss
 fields-version version (suc turns) bytes cs ss =
     cond-has (Versioned version) (eqb (length bytes) 0) _ _ (finished-version version cs ss)
