@@ -9,13 +9,14 @@ true` or `false` of `is_meta_or_small(8)` (small.py makes these). A channel is `
 FIRST NUMBER`. Document 01 refuses some of what the Rust lets through: INSTEAD has every such difference. The other cases
 are made here by the papers' rules (rules.py), those that they name themselves as rows with the answer written out.
 
-The stream is numbers of four bytes, least byte first. A case is its source (1 the Rust, 2 the rules), its kind (1 to 5
+The stream is numbers of four bytes, least byte first. A case is its source (1 the Rust and 2 the rules, both under
+version 1, 3 the rules under any version), its kind (1 to 5
 as below), how many numbers follow, and these:
     step    list, step, answer, list afterwards if that is 0
-    plan    list, plan, answer, list afterwards if that is 0
-    default list, answer, plan
-    coarse  list, coarse count
-    meant   list, plan, answer, plan that is meant
+    plan    version, list, plan, answer, list afterwards if that is 0
+    default version, list, answer, plan
+    coarse  version, list, answer, coarse count
+    meant   version, list, plan, answer, plan that is meant
 where
     list    count, how many entries follow, width, height and hshift + 256 * vshift of each
     plan    count, how many entries follow, flags, first and number of each
@@ -26,11 +27,11 @@ import struct
 import sys
 
 import rules
-from rules import (MAX_CHANNELS, MAX_SAMPLES, MAX_STEPS, META, coarse_count, default_plan, is_allowed, is_meta, total)
+from rules import (MAX_CHANNELS, MAX_SAMPLES, MAX_STEPS, META, STOPS, coarse_count, default_plan, is_allowed, is_meta, total)
 
-RUST, OWN = 1, 2
+RUST, OWN, VERSIONS = 1, 2, 3
 STEP, PLAN, DEFAULT, COARSE, MEANT = 1, 2, 3, 4, 5
-PROGRAM_READS = 524_288
+PROGRAM_READS = 589_824
 
 # ---- document 01's rules, over those of rules.py, with a refusal's number as the answer
 def judge_list(channels):
@@ -73,25 +74,25 @@ def plan_of(steps, unused=(), count=None):
     return (len(steps) if count is None else count, [(h + 2 * i, f, n) for h, i, f, n in steps] + list(unused))
 
 
-def meant_plan(flat, plan):
+def meant_plan(flat, plan, version=1):
     """The answer to questions 3 to 6, and the plan that is meant."""
     count, entries = plan
     channels = meant(flat)
     form = judge_flat(flat)
     if form == 3 or count > MAX_STEPS:
         return 3, plan_of([])
-    if form == 4 or any(flags > 3 for flags, _, _ in entries[:count]):
+    if form == 4 or version not in STOPS or any(flags > 3 for flags, _, _ in entries[:count]):
         return 4, plan_of([])
     if form:
         return form, plan_of([])
     if count == 0 and all(is_meta(c) for c in channels):
         return 11, plan_of([])
-    return 0, plan if count else plan_of(default_plan(channels))
+    return 0, plan if count else plan_of(default_plan(channels, version))
 
 
-def judge_plan(flat, plan):
+def judge_plan(flat, plan, version=1):
     """The answer to questions 3 to 11, and the list that the plan leaves."""
-    answer, (count, entries) = meant_plan(flat, plan)
+    answer, (count, entries) = meant_plan(flat, plan, version)
     if answer:
         return answer, flat
     channels = meant(flat)
@@ -134,21 +135,23 @@ def put_step(source, flat, step, answer, after):
     put(source, STEP, list_samples(flat), step, [answer], [] if answer else list_samples(after))
 
 
-def put_plan(source, flat, plan, answer, after):
-    put(source, PLAN, list_samples(flat), plan_samples(plan), [answer], [] if answer else list_samples(after))
+def put_plan(source, flat, plan, answer, after, version=1):
+    put(source, PLAN, [version], list_samples(flat), plan_samples(plan), [answer], [] if answer else list_samples(after))
 
 
-def put_default(source, flat, answer, plan):
-    put(source, DEFAULT, list_samples(flat), [answer], plan_samples(plan))
+def put_default(source, flat, answer, plan, version=1):
+    put(source, DEFAULT, [version], list_samples(flat), [answer], plan_samples(plan))
 
 
-def put_meant(flat, plan):
-    answer, steps = meant_plan(flat, plan)
-    put(OWN, MEANT, list_samples(flat), plan_samples(plan), [answer], plan_samples(steps))
+def put_meant(flat, plan, source=OWN, version=1):
+    answer, steps = meant_plan(flat, plan, version)
+    put(source, MEANT, [version], list_samples(flat), plan_samples(plan), [answer], plan_samples(steps))
 
 
-def put_coarse(flat):
-    put(OWN, COARSE, list_samples(flat), [coarse_count(meant(flat))])
+def put_coarse(flat, source=OWN, version=1):
+    """Nothing but the version is judged."""
+    known = version in STOPS
+    put(source, COARSE, [version], list_samples(flat), [0, coarse_count(meant(flat), version)] if known else [4, 0])
 
 
 # ---- the Rust's answers
@@ -212,7 +215,7 @@ def rust_default(text):
 # A channel is coarse if the Rust's predicate says so: the count of that channel alone.
 def rust_small(text):
     channel, said = text.removeprefix('small ').split('=>')
-    put(RUST, COARSE, list_samples(held(channels_of(channel))), [{'true': 1, 'false': 0}[said.strip()]])
+    put(RUST, COARSE, [1], list_samples(held(channels_of(channel))), [0, {'true': 1, 'false': 0}[said.strip()]])
 
 
 # ---- cases of our own, by the rules above
@@ -442,6 +445,62 @@ def sweeps():
     put_coarse(held([large] * 255 + [(9, 9, 0, 0)]))
 
 
+# Versions (document 02, A.11): a list, steps (none: the default plan), a version, the answer, the steps and the coarse
+# count that they leave.
+VERSION_ROWS = """
+32 32 0 0                          |                     | 2 | 0  | 0 | 1 | no side above 32
+33 32 0 0                          |                     | 2 | 0  | 1 | 2 | one
+33 33 0 0                          |                     | 2 | 0  | 2 | 2 | two
+65 64 0 0                          |                     | 2 | 0  | 3 | 2 | above 64
+32 32 0 0                          |                     | 1 | 0  | 4 | 2 | version 1 goes on to 8
+9 9 0 0 ; 9 9 0 0 ; 9 9 0 0        |                     | 2 | 0  | 0 | 3 | no chroma steps
+9 9 0 0 ; 9 9 0 0 ; 9 9 0 0        |                     | 1 | 0  | 4 | 6 | chroma steps
+300 1 m m ; 33 9 0 0               |                     | 2 | 0  | 1 | 3 | a meta channel first
+20 20 0 0                          | h in 0 1            | 2 | 0  | 1 | 2 | steps of its own, by version 2's side
+20 20 0 0                          | h in 0 1            | 1 | 0  | 1 | 0 | by version 1's
+7 3 m m                            |                     | 2 | 11 | 0 | 0 | no other channel
+20 20 0 0                          |                     | 0 | 4  | 0 | 0 | no version
+20 20 0 0                          |                     | 3 | 4  | 0 | 0 | no version
+20 20 0 0                          | h in 0 1            | 3 | 4  | 0 | 0 | no version with steps
+20 20 0 0                          |                     | 4294967295 | 4 | 0 | 0 | the largest number
+20 20 0 0                          |                     | 65538 | 4 | 0 | 0 | 2 if it were cut
+                                   |                     | 3 | 3  | 0 | 0 | 3 before 4
+20 20 0 0 ; 7 3 m m                |                     | 3 | 4  | 0 | 0 | 4 for two causes
+65535 65535 0 0                    |                     | 3 | 4  | 0 | 0 | 4 before 5
+7 3 m m                            |                     | 3 | 4  | 0 | 0 | 4 before 11
+20 20 0 0                          | h in 0 2            | 3 | 4  | 0 | 0 | 4 before 6
+"""
+
+
+def of_version(flat, plan, version):
+    """The default plan where there are no steps, the steps meant, the list left and its coarse count."""
+    answer, after = judge_plan(flat, plan, version)
+    put_plan(VERSIONS, flat, plan, answer, after, version)
+    put_meant(flat, plan, VERSIONS, version)
+    put_coarse(after, VERSIONS, version)
+    if plan[0] == 0:
+        put_default(VERSIONS, flat, *meant_plan(flat, plan, version), version)
+    return answer, meant_plan(flat, plan, version)[1][0], 0 if answer else coarse_count(meant(after), version)
+
+
+def version_rows():
+    for row in VERSION_ROWS.strip('\n').split('\n'):
+        channels, steps, version, *expected, why = row.split('|')
+        found = of_version(held(channels_of(channels)), plan_of(steps_of(steps)), int(version))
+        assert found == tuple(map(int, expected)), (why, found)
+
+
+def version_sweeps():
+    for w, h in [(w, h) for w in (31, 32, 33) for h in (31, 32, 33)] + [(w, h) for w in (64, 65) for h in (64, 65)]:
+        for channels in ([(w, h, 0, 0)], [(w, h, 0, 0)] * 3, [meta] + [(w, h, 0, 0)] * 4):
+            for version in (1, 2):
+                of_version(held(channels), plan_of([]), version)
+    for flat in (held([(4097, 2049, 0, 0)]), held([(1048575, 16, 0, 0)]), held([(9, 9, 0, 0)] * 257, count=257), held([plain], junk[:255])):
+        for version in (0, 1, 2, 3, 2147483648):
+            of_version(flat, plan_of([]), version)
+            put_coarse(flat, VERSIONS, version)
+
+
 if __name__ == '__main__':
     for path, rust_case in zip(sys.argv[1:], (rust_list, rust_default, rust_small), strict=True):
         for text in open(path):
@@ -450,6 +509,8 @@ if __name__ == '__main__':
     plan_rows()
     coarse_rows()
     sweeps()
+    version_rows()
+    version_sweeps()
     stream = b''.join(cases)
     assert len(stream) <= PROGRAM_READS
     sys.stdout.buffer.write(stream)

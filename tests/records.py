@@ -15,22 +15,22 @@ of each kind goes to standard error.
 import struct
 import sys
 
-from rules import Refused, channel, coarse_count, field, is_meta, layouts, meaning, meta, short, strip
+from rules import VERSION_2, Refused, channel, coarse_count, field, is_meta, layouts, meaning, meta, short, strip, tagged
 
-KINDS = {kind: [] for kind in ['printed', 'cuts', 'refusals', 'order', 'limits', 'sizes', 'metas', 'plans', 'bytes', 'strips', 'inputs']}
+KINDS = {kind: [] for kind in ['printed', 'cuts', 'refusals', 'order', 'limits', 'sizes', 'metas', 'plans', 'bytes', 'strips', 'versions', 'inputs']}
 
 
 # The program squeeze-list: "judges the first 4,096 bytes of standard input".
 JUDGED = 4096
 
 
-def text(channels, steps):
+def text(version, channels, steps):
     lines = [f'steps {len(steps)}']
     lines += [f'{"h" if s[0] else "v"} {"in" if s[1] else "out"} {s[2]} {s[3]}' for s in steps]
     channels = layouts(channels, steps)[-1]
     lines.append(f'channels {len(channels)}')
     lines += [f'{c[0]} {c[1]} m m' if is_meta(c) else '%d %d %d %d' % c for c in channels]
-    return '\n'.join(lines + [f'coarse {coarse_count(channels)}', ''])
+    return '\n'.join(lines + [f'coarse {coarse_count(channels, version)}', ''])
 
 
 def listing(record):
@@ -258,6 +258,57 @@ def strips():
         case('strips', strip(65536, 1, 10, 10) * (count - 64) + b''.join(field(1, 100 + k, 1) for k in range(64)), 10 if count == 257 else 0)
 
 
+# Versions (document 02, A.11): what is printed, by hand; tag 4 in every place and form; sizes about both stopping sides.
+
+VERSIONS = [
+    (VERSION_2 + channel(20, 9), 'steps 0|channels 1|20 9 0 0|coarse 1|'),
+    (VERSION_2 + channel(32, 32), 'steps 0|channels 1|32 32 0 0|coarse 1|'),
+    (VERSION_2 + channel(33, 32), 'steps 1|h in 0 1|channels 2|17 32 1 0|16 32 1 0|coarse 2|'),
+    (VERSION_2 + channel(32, 33), 'steps 1|v in 0 1|channels 2|32 17 0 1|32 16 0 1|coarse 2|'),
+    (VERSION_2 + channel(65, 64), 'steps 3|h in 0 1|v in 0 1|h in 0 1|channels 4|17 32 2 1|16 32 2 1|33 32 1 1|32 64 1 0|coarse 2|'),
+    (VERSION_2 + channel(64, 65), 'steps 3|v in 0 1|h in 0 1|v in 0 1|channels 4|32 17 1 2|32 16 1 2|32 33 1 1|64 32 0 1|coarse 2|'),
+    (VERSION_2 + channel(64, 9) * 3,
+     'steps 1|h in 0 3|channels 6|32 9 1 0|32 9 1 0|32 9 1 0|32 9 1 0|32 9 1 0|32 9 1 0|coarse 6|'),
+    (VERSION_2 + channel(9, 9) * 4, 'steps 0|channels 4|9 9 0 0|9 9 0 0|9 9 0 0|9 9 0 0|coarse 4|'),
+    (VERSION_2 + meta(300, 1) + channel(33, 9), 'steps 1|h in 1 1|channels 3|300 1 m m|17 9 1 0|16 9 1 0|coarse 3|'),
+    (VERSION_2 + channel(20, 9) + field(3, 0, 1), 'steps 1|h in 0 1|channels 2|10 9 1 0|10 9 1 0|coarse 2|'),
+    (channel(20, 9) + field(3, 0, 1), 'steps 1|h in 0 1|channels 2|10 9 1 0|10 9 1 0|coarse 0|'),
+]
+
+VERSION_REFUSALS = {
+    1: [b'\x04', b'\x04\x01', b'\x04\x01\x00', b'\x04\x02\x00\x02', b'\x04\xff\xff\x02', PRINTED + VERSION_2[:3]],
+    2: [b'\x04\x00\x00', b'\x04\x00\x00' + PRINTED, tagged(2, 2) + PRINTED, tagged(1, 2) + PRINTED, tagged(2, 256) + PRINTED, VERSION_2 * 2,
+        VERSION_2 * 2 + PRINTED, VERSION_2 + tagged(1) + PRINTED, PRINTED + VERSION_2, VERSION_2 + PRINTED + VERSION_2, PRINTED + tagged(1),
+        PRINTED + field(3, 0, 1) + VERSION_2, VERSION_2 + PRINTED + field(3, 0, 1) + VERSION_2, channel(1, 1) * 256 + VERSION_2],
+    3: [VERSION_2, VERSION_2 + field(3, 0, 1), VERSION_2 + channel(1, 1) * 257, VERSION_2 + channel(64, 1) + field(3, 0, 1) * 65],
+    4: [tagged(value) + PRINTED for value in (0, 1, 3, 4, 255)] + [tagged(1), tagged(1) + b'\x04', VERSION_2 + channel(9, 9, 31, 0)],
+    5: [VERSION_2 + channel(4096, 4097), VERSION_2 + meta(65535, 300)],
+    6: [VERSION_2 + channel(9, 9) + field(3, 0, 2)],
+    9: [VERSION_2 + channel(33, 0), VERSION_2 + channel(0, 33), VERSION_2 + channel(33, 33) + channel(0, 5)],
+    10: [VERSION_2 + channel(64, 9, 30, 0), VERSION_2 + channel(33, 9) * 129],
+    11: [VERSION_2 + meta(9, 9)],
+}
+
+
+def versions():
+    for record, expected in VERSIONS:
+        assert listing(record) == expected.replace('|', '\n'), (listing(record), expected)
+        case('versions', record, 0)
+    for number, records in VERSION_REFUSALS.items():
+        for record in records:
+            case('versions', record, number)
+    for w in (9, 31, 32, 33, 64, 65):
+        for h in (1, 9, 31, 32, 33, 64, 65):
+            for record in (channel(w, h), channel(w, h) * 3, channel(w, h) * 4, meta(20, 3) + channel(w, h) * 2):
+                for version in (b'', VERSION_2):
+                    case('versions', version + record)
+                    case('versions', version + record + field(1, len(record) // 9 - 1, 1))
+    whole = VERSION_2 + meta(3, 5) + channel(40, 9) + strip(65536, 1, 1, 2) + field(3, 1, 2) + field(0, 1, 1)
+    for n in range(len(whole) + 1):
+        case('versions', whole[:n], None if n in (0, 4, 13, 22, 35, 43, 51) else 1)
+        case('versions', whole[:n] + VERSION_2, 2 if n in (4, 13, 22, 35, 43, 51) else None)
+
+
 # Long inputs, and each value of a byte of the printed record.
 
 def byte_values():
@@ -289,7 +340,7 @@ def long_field(length, record=b''):
 def inputs():
     longest = channel(65535, 1, 10, 10) * 192 + b''.join(field(1, 100 + k, 1) for k in range(64))
     widest = strip(65536, 1, 10, 10) * 192 + b''.join(field(1, 100 + k, 1) for k in range(64))
-    for record in (PRINTED, LONG[:27], longest, widest):
+    for record in (PRINTED, LONG[:27], longest, widest, VERSION_2 + PRINTED, VERSION_2 + widest):
         case('inputs', record, 0)
     for start, refusal in ((b'', 3), (b'\x00', 1), (b'\x01', 1), (PRINTED[:-1], 1), (PRINTED + b'\x01', 1)):
         case('inputs', start, refusal)
@@ -306,7 +357,7 @@ def inputs():
 
 
 if __name__ == '__main__':
-    for make in (printed, cuts, refusals, order, limits, sizes, metas, palettes, plans, byte_values, strips, inputs):
+    for make in (printed, cuts, refusals, order, limits, sizes, metas, palettes, plans, byte_values, strips, versions, inputs):
         make()
     out = sys.stdout.buffer
     for kind, cases in KINDS.items():

@@ -1,12 +1,15 @@
 """The papers' rules in plain form, for the generators beside this file: records, lists, plans and the pair.
 
 A channel is (width, height, horizontal shift, vertical shift), a step (horizontal, in place, first, number). Written
-from document 01 alone, the coarse count from document 02, A.2, sides and tag 3 from its A.8.
+from document 01 alone, the coarse count from document 02, A.2, sides and tag 3 from its A.8, versions from its A.11.
 """
 import struct
 
-MAX_CHANNELS, MAX_STEPS, MAX_SAMPLES, MAX_SHIFT, META, STOP = 256, 64, 16_777_216, 30, 255, 8
+MAX_CHANNELS, MAX_STEPS, MAX_SAMPLES, MAX_SHIFT, META = 256, 64, 16_777_216, 30, 255
 MAX_SIDE, MAX_SHORT_SIDE = 1_048_575, 65_535
+
+# "From plan version 2, the default plan stops at 32 in place of 8 and has no chroma steps first."
+STOPS, CHROMA = {1: 8, 2: 32}, {1: True, 2: False}
 
 
 class Refused(Exception):
@@ -21,14 +24,18 @@ def ask(answer, number):
 # Questions 1 to 4, field by field.
 
 def read(record):
-    channels, steps, at = [], [], 0
+    version, channels, steps, at = 1, [], [], 0
     while at < len(record):
         ask(at + 3 <= len(record), 1)
         tag, length = record[at], record[at + 1] + 256 * record[at + 2]
         body = record[at + 3:at + 3 + length]
         ask(len(body) == length, 1)
-        ask((tag, length) in [(1, 6), (2, 5), (3, 10)] and not (tag in (1, 3) and steps), 2)
-        if tag in (1, 3):
+        ask((tag, length) in [(1, 6), (2, 5), (3, 10), (4, 1)], 2)
+        ask(not (tag in (1, 3) and steps) and not (tag == 4 and at > 0), 2)
+        if tag == 4:
+            ask(body[0] == 2, 4)
+            version = 2
+        elif tag in (1, 3):
             ask(len(channels) < MAX_CHANNELS, 3)
             c = struct.unpack('<HHBB' if tag == 1 else '<IIBB', body)
             ask(is_allowed(c), 4)
@@ -42,7 +49,7 @@ def read(record):
             steps.append((flags % 2 == 1, flags // 2 == 1, first, number))
         at += 3 + length
     ask(channels, 3)
-    return channels, steps
+    return version, channels, steps
 
 
 def is_meta(c):
@@ -66,31 +73,32 @@ def total(channels):
 
 
 # "A leading meta channel is to be counted .. of any size; the count still ends at the first other channel with a side
-# above 8" (document 02, A.2).
+# above 8" (document 02, A.2). "The coarse count takes the version's side."
 
-def coarse_count(channels):
-    ends = (k for k, c in enumerate(channels) if not is_meta(c) and max(c[:2]) > STOP)
+def coarse_count(channels, version=1):
+    ends = (k for k, c in enumerate(channels) if not is_meta(c) and max(c[:2]) > STOPS[version])
     return next(ends, len(channels))
 
 
 # "Default plan (reference `default_squeeze`)".
 
-def default_plan(channels):
+def default_plan(channels, version=1):
+    stop = STOPS[version]
     m = sum(is_meta(c) for c in channels)
     n = len(channels) - m
     ask(n > 0, 11)
     w, h = channels[m][:2]
     steps = []
-    if n > 2 and channels[m + 1][:2] == (w, h):
+    if CHROMA[version] and n > 2 and channels[m + 1][:2] == (w, h):
         steps += [(True, False, m + 1, 2)] * (w > 1) + [(False, False, m + 1, 2)] * (h > 1)
-    if w <= h and h > STOP:
+    if w <= h and h > stop:
         steps.append((False, True, m, n))
         h = (h + 1) // 2
-    while w > STOP or h > STOP:
-        if w > STOP:
+    while w > stop or h > stop:
+        if w > stop:
             steps.append((True, True, m, n))
             w = (w + 1) // 2
-        if h > STOP:
+        if h > stop:
             steps.append((False, True, m, n))
             h = (h + 1) // 2
     return steps
@@ -121,10 +129,10 @@ def step(channels, horizontal, inplace, first, number):
 
 
 def meaning(record):
-    """The channels and the steps that a record means, by questions 1 to 6."""
-    channels, steps = read(record)
+    """The version, the channels and the steps that a record means, by questions 1 to 6."""
+    version, channels, steps = read(record)
     ask(total(channels) <= MAX_SAMPLES, 5)
-    return channels, steps or default_plan(channels)
+    return version, channels, steps or default_plan(channels, version)
 
 
 def layouts(channels, steps):
@@ -151,6 +159,14 @@ def channel(*c):
 
 def meta(w, h):
     return channel(w, h, META, META)
+
+
+def tagged(value, length=1):
+    """Tag 4, with a value and a length of any kind."""
+    return struct.pack('<BH', 4, length) + bytes([value]) + bytes(max(length - 1, 0))
+
+
+VERSION_2 = tagged(2)
 
 
 def field(flags, first, number):

@@ -19,11 +19,11 @@ import random
 import struct
 import sys
 
-from records import LONG, ORDER, PRINTED, REFUSALS, STRIP_REFUSALS
-from rules import (META, Refused, channel, field, half, layouts, line, meaning, meta, part, step, strip, tendency, total,
+from records import LONG, ORDER, PRINTED, REFUSALS, STRIP_REFUSALS, VERSION_REFUSALS
+from rules import (META, VERSION_2, Refused, channel, field, half, layouts, line, meaning, meta, part, step, strip, tendency, total,
                    wrap)
 
-KINDS = {kind: [] for kind in ['vectors', 'sizes', 'plans', 'metas', 'limits', 'refusals', 'order', 'cuts', 'strips']}
+KINDS = {kind: [] for kind in ['vectors', 'sizes', 'plans', 'metas', 'limits', 'refusals', 'order', 'cuts', 'strips', 'versions']}
 dice = random.Random()
 
 
@@ -91,7 +91,7 @@ def flat(planes):
 
 
 def write(record, picture):
-    channels, steps = meaning(record)
+    _, channels, steps = meaning(record)
     planes = planes_of(channels, picture)
     for before, s in zip(layouts(channels, steps), steps):
         planes = forward(before, planes, *s)
@@ -99,7 +99,7 @@ def write(record, picture):
 
 
 def rebuild(record, pyramid):
-    channels, steps = meaning(record)
+    _, channels, steps = meaning(record)
     lists = layouts(channels, steps)
     planes = planes_of(lists[-1], pyramid)
     for before, s in zip(lists[-2::-1], reversed(steps)):
@@ -110,7 +110,7 @@ def rebuild(record, pyramid):
 def judge(record):
     """The answer to questions 1 to 11."""
     try:
-        layouts(*meaning(record))
+        layouts(*meaning(record)[1:])
         return 0
     except Refused as refusal:
         return refusal.args[0]
@@ -163,7 +163,7 @@ def refused(kind, number, record, lengths):
 def fitting(record):
     """Lengths that question 14 would take, as far as the record tells them and they are small."""
     try:
-        n = total(meaning(record)[0])
+        n = total(meaning(record)[1])
     except Refused:
         n = 3
     return [n if n < 2**14 else 3] * 3
@@ -175,7 +175,7 @@ def run(kind, record, answer=None, sort=None):
     assert answer in (None, number), (kind, record, number)
     if number:
         return refused(kind, number, record, fitting(record))
-    made = samples(total(meaning(record)[0]), sort)
+    made = samples(total(meaning(record)[1]), sort)
     if below(2):
         accepted(kind, record, made, rebuild(record, made))
     else:
@@ -377,9 +377,32 @@ def strips():
     refused('strips', 12, strip(65536, 1), [65536, 65536, 65535])
 
 
+# Versions (document 02, A.11): pictures about both stopping sides, with and without version 2's field, with steps of
+# their own, cut at each byte, and the refusals.
+
+def versions():
+    for version in (b'', VERSION_2):
+        for w, h in itertools.product((31, 32, 33), repeat=2):
+            for record in (channel(w, h), channel(w, h) * 3, meta(5, 2) + channel(w, h)):
+                run('versions', version + record, 0)
+        for w, h in ((64, 9), (65, 9), (9, 64), (9, 65), (64, 64), (65, 65), (1, 65), (65, 1)):
+            run('versions', version + channel(w, h), 0)
+            run('versions', version + meta(3, 1) + channel(w, h) * (4 if w * h < 1000 else 2), 0)
+            run('versions', version + channel(w, h) + channel(5, 4) + field(3, 0, 2) + field(0, 1, 2), 9 if w == 1 else 0)
+    for number, records in VERSION_REFUSALS.items():
+        for record in records:
+            run('versions', record, number)
+            refused('versions', number, record, [1, 2, 4])
+    whole = VERSION_2 + channel(34, 2) * 3 + field(1, 1, 2)
+    for n in range(len(whole) + 1):
+        run('versions', whole[:n])
+    for lengths in lengths_off(fitting(VERSION_2 + channel(33, 2))[0]):
+        refused('versions', 12, VERSION_2 + channel(33, 2), lengths)
+
+
 if __name__ == '__main__':
     vectors(sys.argv[1])
-    for make in (sizes, plans, metas, limits, refusals, order, cuts, strips):
+    for make in (sizes, plans, metas, limits, refusals, order, cuts, strips, versions):
         dice.seed(make.__name__)
         make()
     for kind, cases in KINDS.items():

@@ -12,7 +12,7 @@ import subprocess
 import sys
 import tempfile
 
-from rules import STOP
+from rules import STOPS
 
 SIDES = [0, 1, 7, 8, 9, 16, 300, 65535]
 SHIFTS = ['None', 'Some((0, 0))', 'Some((1, 30))']
@@ -53,6 +53,6 @@ if __name__ == '__main__':
     methods = '\n\n'.join(lifted(source, name) for name in ('is_meta', 'is_meta_or_small'))
     with tempfile.TemporaryDirectory() as place:
         program = pathlib.Path(place, 'small')
-        text = PROGRAM % (methods, SIDES, SIDES, ', '.join(SHIFTS), STOP)
+        text = PROGRAM % (methods, SIDES, SIDES, ', '.join(SHIFTS), STOPS[1])
         subprocess.run(['rustc', '--edition', '2021', '-o', program, '-'], input=text, text=True, check=True)
         sys.stdout.write(subprocess.run([program], stdout=subprocess.PIPE, text=True, check=True).stdout)

@@ -1,6 +1,6 @@
 // Replays lists, steps and plans (tests/lists.py made `stdin` of the published
 // Rust's answers and of cases by document 01's rules, and says how it is laid
-// out). Compares answers and whole arrays, and prints how many cases of each
+// out). Compares answers and whole arrays and prints how many cases of each
 // kind there were and how many came out right.
 ghost use Prim.Native.Nat.{_+_, _<_, _≤_};
 use libc::STDIN_FILENO;
@@ -14,6 +14,8 @@ use samples::word_at;
 const RUST: usize = 1;
 
 const OWN: usize = 2;
+
+const VERSIONS: usize = 3;
 
 const STEP: usize = 1;
 
@@ -165,14 +167,16 @@ fn step_agrees(bytes: &[u8], at: usize) -> bool
         & same_list(stepped.list, list_after(bytes, end + 20, answer, list))
 }
 
+// A plan version stands before the list, here and below.
 fn plan_agrees(bytes: &[u8], at: usize) -> bool
     requires { ⌜ at < 0x9000_0000_0000_0000 ⌝ }
 {
-    let list = list_at(bytes, at);
-    let middle = array_end(bytes, at);
+    let version = word_at(bytes, at);
+    let list = list_at(bytes, at + 4);
+    let middle = array_end(bytes, at + 4);
     let end = array_end(bytes, middle);
     let answer = number_at(bytes, end);
-    let rewritten = plan::rewrite(list, steps_at(bytes, middle));
+    let rewritten = plan::rewrite(version, list, steps_at(bytes, middle));
     (rewritten.answer as usize == answer)
         & same_list(rewritten.list, list_after(bytes, end + 4, answer, list))
 }
@@ -180,8 +184,8 @@ fn plan_agrees(bytes: &[u8], at: usize) -> bool
 fn default_agrees(bytes: &[u8], at: usize) -> bool
     requires { ⌜ at < 0x9000_0000_0000_0000 ⌝ }
 {
-    let end = array_end(bytes, at);
-    let planned = plan::default_squeeze(list_at(bytes, at));
+    let end = array_end(bytes, at + 4);
+    let planned = plan::default_squeeze(word_at(bytes, at), list_at(bytes, at + 4));
     let answer = planned.answer as usize;
     (answer == number_at(bytes, end)) & same_steps(planned.steps, steps_at(bytes, end + 4))
 }
@@ -189,9 +193,13 @@ fn default_agrees(bytes: &[u8], at: usize) -> bool
 fn meant_agrees(bytes: &[u8], at: usize) -> bool
     requires { ⌜ at < 0x9000_0000_0000_0000 ⌝ }
 {
-    let middle = array_end(bytes, at);
+    let middle = array_end(bytes, at + 4);
     let end = array_end(bytes, middle);
-    let meant = plan::meant_steps(list_at(bytes, at), steps_at(bytes, middle));
+    let meant = plan::meant_steps(
+        word_at(bytes, at),
+        list_at(bytes, at + 4),
+        steps_at(bytes, middle),
+    );
     let answer = meant.answer as usize;
     (answer == number_at(bytes, end)) & same_steps(meant.steps, steps_at(bytes, end + 4))
 }
@@ -199,7 +207,9 @@ fn meant_agrees(bytes: &[u8], at: usize) -> bool
 fn coarse_agrees(bytes: &[u8], at: usize) -> bool
     requires { ⌜ at < 0x9000_0000_0000_0000 ⌝ }
 {
-    plan::coarse_count(list_at(bytes, at)) == number_at(bytes, array_end(bytes, at))
+    let end = array_end(bytes, at + 4);
+    let coarse = plan::coarse_count(word_at(bytes, at), list_at(bytes, at + 4));
+    (coarse.answer as usize == number_at(bytes, end)) & (coarse.count == number_at(bytes, end + 4))
 }
 
 fn agrees(bytes: &[u8], at: usize, kind: usize) -> bool
@@ -260,10 +270,14 @@ fn report(bytes: &[u8]) {
     say(bytes, b"own, default plans ", OWN, DEFAULT);
     say(bytes, b"own, coarse counts ", OWN, COARSE);
     say(bytes, b"own, steps meant ", OWN, MEANT);
+    say(bytes, b"versions, plans ", VERSIONS, PLAN);
+    say(bytes, b"versions, default plans ", VERSIONS, DEFAULT);
+    say(bytes, b"versions, coarse counts ", VERSIONS, COARSE);
+    say(bytes, b"versions, steps meant ", VERSIONS, MEANT);
 }
 
 fn main() {
-    let mut buffer = [0u8; 524288];
+    let mut buffer = [0u8; 589824];
     let n = io::read_full(STDIN_FILENO, &mut buffer);
     report(&buffer[..n]);
 }

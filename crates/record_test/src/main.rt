@@ -97,10 +97,10 @@ fn writes_back(bytes: &[u8]) -> bool {
         return false;
     }
     let mut small = [MARK; LISTING_ROOM];
-    let short = record::write_record(read.list, read.steps, &mut small[0..n - 1]);
+    let short = record::write_record(read.version, read.list, read.steps, &mut small[0..n - 1]);
     let refused = (short.answer == REFUSED_LENGTH) & (short.length == 0) & holds(&small, b"");
     let mut room = [MARK; LISTING_ROOM];
-    let written = record::write_record(read.list, read.steps, &mut room);
+    let written = record::write_record(read.version, read.list, read.steps, &mut room);
     refused & (written.answer == 0) & (written.length == n) & holds(&room, bytes)
 }
 
@@ -151,5 +151,6 @@ fn main() {
     kind(b"plans ", true);
     kind(b"bytes ", true);
     kind(b"strips ", true);
+    kind(b"versions ", true);
     kind(b"inputs ", false);
 }

@@ -296,4 +296,5 @@ fn main() {
     kind(b"order ");
     kind(b"cuts ");
     kind(b"strips ");
+    kind(b"versions ");
 }
