@@ -14,9 +14,9 @@
 
 int main(void)
 {
-    /* One channel, 20 by 9, shifts 0, and no steps: the default plan. */
+    /* One channel, 20 by 9, shifts 0, and no steps: version 1's default plan. */
     static const uint32_t channels[] = {WIDTH, HEIGHT, 0, 0};
-    static uint8_t record[3840], text[8192];
+    static uint8_t record[3844], text[8192];
     static int32_t picture[SAMPLES], pyramid[SAMPLES], back[SAMPLES], work[SAMPLES];
     uint32_t answer, bytes, length;
     int i;
@@ -24,7 +24,7 @@ int main(void)
     for (i = 0; i < SAMPLES; i++)
         picture[i] = i % WIDTH * 3 + i / WIDTH * 5 + i % 7;
 
-    answer = squeeze_record(channels, 4, NULL, 0, record, sizeof record, &bytes, 1);
+    answer = squeeze_record(1, channels, 4, NULL, 0, record, sizeof record, &bytes, 1);
     if (answer == 0)
         answer = squeeze_listing(record, bytes, text, sizeof text, &length, 1);
     if (answer == 0) {

@@ -10,11 +10,21 @@
    a strip and has a field of its own, tag 3; every other channel has tag 1, and
    tag 3 for it is refused.
 
+   A record has a plan version, which every call over it follows. Version 1 is the
+   standard's: the default plan has chroma steps first and stops at 8. Version 2
+   is for larger screens: the default plan has no chroma steps and stops at 32. A
+   record says version 2 in its first field, tag 4: 04 01 00 02 (hex). Without
+   that field it has version 1; the field with value 1 is refused. The coarse
+   count takes the version's side, 8 or 32, also where a record has steps of its
+   own.
+
    Refusals:  1 a field's head or length runs past the record
-              2 unknown tag, wrong length, or a channel after a step
+              2 unknown tag, wrong length, a channel after a step, or tag 4 after
+                another field
               3 no channel, over 256 channels or over 64 steps
               4 shifts, meta channels not first, unknown flag bits, a side above
-                1,048,575, or tag 3 for a channel that is no strip
+                1,048,575, tag 3 for a channel that is no strip, tag 4 with a
+                value other than 2, or a version other than 1 or 2
               5 over 16,777,216 samples
               6 a step's range      7 its kinds     8 meta and not in place
               9 an empty side      10 too many channels, or a shift above 30
@@ -65,25 +75,30 @@ uint32_t squeeze_tile(uint32_t horizontal,
 
 /* The listing of a record as text: the plan's steps, the channels that it
    leaves and how many of them are coarse: those at the front that are meta, of
-   any size, or have no side above 8. The text goes over the front of
-   `text` (8,192 bytes hold every listing), its length in bytes into length[0];
-   what is past them stays. A text too short or no length: refused with 12. */
+   any size, or have no side above 8, under version 2 above 32. The text goes
+   over the front of `text` (8,192 bytes hold every listing), its length in bytes
+   into length[0]; what is past them stays. A text too short or no length: refused
+   with 12. */
 uint32_t squeeze_listing(const uint8_t *record, size_t record_len,
                          uint8_t *text, size_t text_len,
                          uint32_t *length, size_t length_len);
 
 /* Writes a record, if its channels and its plan are such as the other functions
-   take. channels: four numbers each, width, height, horizontal and vertical
-   shift, both shifts 255 for a meta channel. steps: three numbers each, flags
-   (the sum of 1 for horizontal and 2 for in place), first channel, number of
-   channels; no steps mean the default plan. The bytes go over the front of
-   `record` (9 for a channel, 13 for a strip, 8 for a step; 3,840 hold every
-   record), their number into length[0]; what is past them stays. A number too
-   large for its place is refused, never cut: a side of 1,048,576 with 4, shifts
+   take. version: the plan version, 1 or 2; any other number is refused with 4.
+   The parameter is new: a caller from before there were versions gives 1, and
+   the bytes are what they were. channels: four numbers each, width, height,
+   horizontal and vertical shift, both shifts 255 for a meta channel. steps: three
+   numbers each, flags (the sum of 1 for horizontal and 2 for in place), first
+   channel, number of channels; no steps mean the default plan. The bytes go over
+   the front of `record` (4 for version 2 and none for version 1, 9 for a channel,
+   13 for a strip, 8 for a step; 3,844 hold every record), their number into
+   length[0]; what is past them stays. A number too large for its place is
+   refused, never cut: a version of 258 with 4, a side of 1,048,576 with 4, shifts
    and flags above 255 with 4, a step's first channel or number of 65,536 with 6.
    Numbers left over after the last whole channel or step, a record too short or
    no length: refused with 12. */
-uint32_t squeeze_record(const uint32_t *channels, size_t channels_len,
+uint32_t squeeze_record(uint32_t version,
+                        const uint32_t *channels, size_t channels_len,
                         const uint32_t *steps, size_t steps_len,
                         uint8_t *record, size_t record_len,
                         uint32_t *length, size_t length_len);

@@ -3,10 +3,9 @@
 //!
 //! `cargo run --release --example fuzz -- [COUNT [SEED]]`; 1,000,000 calls with
 //! seed 1 if not given. Exit status 1 if anything differs, if a function never gave
-//! an answer that it can give, or if strips weren't met in all their ways.
+//! an answer that it can give, or if strips or versions weren't met in all their ways.
 
 use squeeze_compare::fuzz::{run, Report, ANSWERS, FUNCTIONS};
-use squeeze_compare::strips::WAYS;
 
 fn main() {
     let words: Vec<String> = std::env::args().skip(1).collect();
@@ -21,10 +20,11 @@ fn main() {
     let (count, seed) = (word(0, 1_000_000), word(1, 1));
     let report = run(count, seed);
     print(&report, count, seed);
-    let (missing, strips) = (report.never_met(), report.strips_never_met());
-    let all_met = missing.is_empty() && strips.is_empty();
+    let missing = report.never_met();
+    let (strips, versions) = (report.strips.never_met(), report.versions.never_met());
+    let all_met = missing.is_empty() && strips.is_empty() && versions.is_empty();
     if !all_met {
-        println!("never met: {missing:?} {strips:?}");
+        println!("never met: {missing:?} {strips:?} {versions:?}");
     }
     if !all_met || !report.differences.is_empty() {
         std::process::exit(1);
@@ -51,9 +51,9 @@ fn print(report: &Report, count: u64, seed: u64) {
         println!();
     }
     println!("strips: how often each way was met");
-    for ((_, way), times) in WAYS.iter().zip(report.strips) {
-        println!("{times:>8} {way}");
-    }
+    report.strips.print();
+    println!("versions: how often each way was met");
+    report.versions.print();
     println!("differences: {}", report.differences.len());
     for text in &report.differences {
         println!("{text}");

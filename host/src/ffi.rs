@@ -56,6 +56,7 @@ extern "C" {
     ) -> u32;
 
     pub fn squeeze_record(
+        version: u32,
         channels: *const u32,
         channels_len: usize,
         steps: *const u32,

@@ -58,16 +58,37 @@ pub struct Step {
     pub number: u16,
 }
 
+/// A plan's version: what the default plan does, and up to which side a channel is
+/// coarse. Other numbers than the two named ones can be made; the core refuses them.
+#[derive(Clone, Copy, Debug, PartialEq, Eq, Hash)]
+pub struct Version(pub u8);
+
+impl Version {
+    /// As the standard has it: the default plan has chroma steps first and stops at
+    /// 8.
+    pub const STANDARD: Version = Version(1);
+    /// For larger screens: the default plan has no chroma steps and stops at 32.
+    pub const HOUSE: Version = Version(2);
+}
+
+impl Default for Version {
+    fn default() -> Version {
+        Version::STANDARD
+    }
+}
+
 /// The steps of an accepted record, the default plan's if the record has none,
 /// and the channels of its pyramid.
 #[derive(Clone, Debug, PartialEq, Eq)]
 pub struct Layout {
+    /// The record's version.
+    pub version: Version,
     /// The steps, in the order in which the writer takes them.
     pub steps: Vec<Step>,
     /// The channels of the pyramid.
     pub channels: Vec<Channel>,
     /// How many leading channels are coarse: meta, of any size, or without a side
-    /// above 8.
+    /// above 8, under version 2 above 32.
     pub coarse: usize,
 }
 
@@ -104,8 +125,9 @@ fn samples(channels: &[Channel]) -> usize {
     channels.iter().map(Channel::samples).sum()
 }
 
-/// A listing taken apart. Nothing if the text isn't a listing.
-pub(crate) fn parse(text: &str) -> Option<Layout> {
+/// The listing of a record of this version, taken apart. Nothing if the text isn't a
+/// listing.
+pub(crate) fn parse(text: &str, version: Version) -> Option<Layout> {
     let mut lines = text.lines();
     let number = count(lines.next()?, "steps ")?;
     let steps = read_lines(&mut lines, number, step)?;
@@ -113,6 +135,7 @@ pub(crate) fn parse(text: &str) -> Option<Layout> {
     let channels = read_lines(&mut lines, number, channel)?;
     let coarse = count(lines.next()?, "coarse ")?;
     let layout = Layout {
+        version,
         steps,
         channels,
         coarse,
@@ -196,14 +219,15 @@ mod tests {
             ("steps 1\nx in 0 1\nchannels 0\ncoarse 0\n", "no direction"),
         ];
         for (text, why) in cases {
-            assert_eq!(parse(text), None, "{why}");
+            assert_eq!(parse(text, Version::STANDARD), None, "{why}");
         }
     }
 
     #[test]
     fn steps_channels_and_meta() {
         let text = "steps 2\nh out 1 2\nv in 0 1\nchannels 2\n5 6 m m\n7 8 1 30\ncoarse 2\n";
-        let layout = parse(text).unwrap();
+        let layout = parse(text, Version::HOUSE).unwrap();
+        assert_eq!(layout.version, Version::HOUSE);
         assert!(layout.steps[0].horizontal && !layout.steps[0].in_place);
         assert_eq!((layout.steps[0].first, layout.steps[0].number), (1, 2));
         assert!(!layout.steps[1].horizontal && layout.steps[1].in_place);
@@ -217,7 +241,7 @@ mod tests {
     #[test]
     fn strips() {
         let text = "steps 0\nchannels 2\n1048575 1 m m\n16 1048575 0 0\ncoarse 1\n";
-        let layout = parse(text).unwrap();
+        let layout = parse(text, Version::STANDARD).unwrap();
         let strips = [Channel::meta(1_048_575, 1), Channel::new(16, 1_048_575)];
         assert_eq!(layout.channels, strips);
         assert_eq!(layout.samples(), 17 * 1_048_575);

@@ -22,7 +22,9 @@
 //! ```
 //!
 //! [`Record::checked`] has the core's own writer make the record, so that a plan
-//! that can't be run is refused where it is made.
+//! that can't be run is refused where it is made. `Record::under(Version::HOUSE)` in
+//! place of `Record::new()` has the plan for larger screens ([`Version`]); every call
+//! follows the version that its record says.
 //!
 //! The core takes any record, any sizes and any slices; what it can't use it
 //! refuses with a reason, and then the slices keep their contents. No call needs
@@ -37,7 +39,7 @@ mod record;
 mod refusal;
 mod tile;
 
-pub use layout::{Channel, Layout, Step};
+pub use layout::{Channel, Layout, Step, Version};
 pub use record::{write_record, Record, RECORD_ROOM};
 pub use refusal::Refusal;
 pub use tile::{grid_rect, tile, GridQuery, Kind, Rect, Size, TileSizes};
@@ -130,10 +132,19 @@ pub fn listing(record: &[u8]) -> Result<String, Refusal> {
     Ok(String::from_utf8(text).expect("a listing is plain text"))
 }
 
-/// The listing of a record, taken apart.
+/// The listing of a record, taken apart, and the record's version beside it.
+///
+/// ```
+/// use squeeze::{layout, Record, Refusal, Version};
+///
+/// let record = Record::under(Version::HOUSE).channel(40, 20).checked()?;
+/// let layout = layout(record.bytes())?;
+/// assert_eq!((layout.version, layout.steps.len()), (Version::HOUSE, 1));
+/// # Ok::<(), Refusal>(())
+/// ```
 pub fn layout(record: &[u8]) -> Result<Layout, Refusal> {
     let text = listing(record)?;
-    match layout::parse(&text) {
+    match layout::parse(&text, record::version(record)) {
         Some(layout) => Ok(layout),
         None => panic!("the core gave this listing: {text:?}"),
     }

@@ -1,12 +1,13 @@
 //! Records: checked by the core's own writer, or only encoded.
 
-use crate::layout::{Channel, Step};
+use crate::layout::{Channel, Step, Version};
 use crate::{answer, ffi, Refusal};
 
-/// The bytes that hold every record that the core accepts: 256 channels, then
-/// 64 steps.
-pub const RECORD_ROOM: usize = 256 * STRIP_BYTES + 64 * STEP_BYTES;
+/// The bytes that hold every record that the core accepts: a version, 256 channels,
+/// then 64 steps.
+pub const RECORD_ROOM: usize = VERSION_BYTES + 256 * STRIP_BYTES + 64 * STEP_BYTES;
 
+const VERSION_BYTES: usize = 3 + 1;
 const STRIP_BYTES: usize = 3 + 10;
 const STEP_BYTES: usize = 3 + 5;
 
@@ -15,6 +16,8 @@ const META: u8 = 255;
 
 /// The longest side under tag 1.
 const SHORT_SIDE: u32 = 65_535;
+
+const VERSION_TAG: u8 = 4;
 
 /// The bytes that describe a picture's channels and its plan. A program that
 /// makes records ends with [`checked`](Record::checked), or begins with
@@ -41,24 +44,47 @@ const SHORT_SIDE: u32 = 65_535;
 /// # Ok::<(), Refusal>(())
 /// ```
 ///
-/// Without it a record is only encoded: any numbers are taken, and the call that
+/// A record has version 1 and doesn't say so; another version is its first field,
+/// tag 4:
+///
+/// ```
+/// # use squeeze::{Record, Refusal, Version};
+/// let house = Record::under(Version::HOUSE).channel(20, 9).checked()?;
+/// assert_eq!(house.bytes(), [4, 1, 0, 2, 1, 6, 0, 20, 0, 9, 0, 0, 0]);
+///
+/// let unknown = Record::under(Version(3)).channel(20, 9);
+/// assert_eq!(unknown.checked(), Err(Refusal::Form));
+/// # Ok::<(), Refusal>(())
+/// ```
+///
+/// Without `checked` a record is only encoded: any numbers are taken, and the call that
 /// the bytes are handed to judges them. Channels stand before steps, in whatever
 /// order they were added.
 #[derive(Clone, Debug, Default, PartialEq, Eq)]
 pub struct Record {
+    version: Version,
     channels: Vec<Channel>,
     steps: Vec<Step>,
     bytes: Vec<u8>,
 }
 
 impl Record {
-    /// A record without fields, to which channels and steps are added.
+    /// A record without fields, to which channels and steps are added, of version 1.
     pub fn new() -> Record {
         Record::default()
     }
 
-    /// The record of these channels and steps, as the core writes it. No steps
-    /// mean the default plan.
+    /// [`new`](Record::new) of any version.
+    pub fn under(version: Version) -> Record {
+        Record {
+            version,
+            bytes: version_field(version),
+            ..Record::default()
+        }
+    }
+
+    /// The record of these channels and steps, as the core writes it, of version 1. No
+    /// steps mean the default plan.
     ///
     /// ```
     /// use squeeze::{layout, Channel, Record, Refusal, Step};
@@ -73,12 +99,34 @@ impl Record {
     /// # Ok::<(), Refusal>(())
     /// ```
     pub fn from_parts(channels: &[Channel], steps: &[Step]) -> Result<Record, Refusal> {
+        Record::from_parts_under(Version::STANDARD, channels, steps)
+    }
+
+    /// [`from_parts`](Record::from_parts) of any version.
+    ///
+    /// ```
+    /// use squeeze::{layout, Channel, Record, Refusal, Version};
+    ///
+    /// let photograph = [Channel::new(640, 480); 3];
+    /// let record = Record::from_parts_under(Version::HOUSE, &photograph, &[])?;
+    /// assert_eq!(layout(record.bytes())?.preview_channels()[..3], [
+    ///     Channel { width: 20, height: 30, shifts: Some((5, 4)) }; 3
+    /// ]);
+    /// # Ok::<(), Refusal>(())
+    /// ```
+    pub fn from_parts_under(
+        version: Version,
+        channels: &[Channel],
+        steps: &[Step],
+    ) -> Result<Record, Refusal> {
         let mut bytes = vec![0; RECORD_ROOM];
         let channel_numbers: Vec<u32> = channels.iter().flat_map(channel_numbers).collect();
         let step_numbers: Vec<u32> = steps.iter().flat_map(step_numbers).collect();
-        let length = write_record(&channel_numbers, &step_numbers, &mut bytes)?;
+        let number = version.0.into();
+        let length = write_record(number, &channel_numbers, &step_numbers, &mut bytes)?;
         bytes.truncate(length);
         Ok(Record {
+            version,
             channels: channels.to_vec(),
             steps: steps.to_vec(),
             bytes,
@@ -88,7 +136,7 @@ impl Record {
     /// The same record, judged and written by the core; or why the core refuses
     /// it.
     pub fn checked(self) -> Result<Record, Refusal> {
-        let written = Record::from_parts(&self.channels, &self.steps)?;
+        let written = Record::from_parts_under(self.version, &self.channels, &self.steps)?;
         assert_eq!(written, self, "the core writes this record otherwise");
         Ok(written)
     }
@@ -135,6 +183,27 @@ impl Record {
     pub fn bytes(&self) -> &[u8] {
         &self.bytes
     }
+
+    /// Its version; of a record's bytes, [`layout`](fn@crate::layout) tells it.
+    pub fn version(&self) -> Version {
+        self.version
+    }
+}
+
+/// The version that an accepted record says.
+pub(crate) fn version(record: &[u8]) -> Version {
+    match record {
+        [VERSION_TAG, _, _, number, ..] => Version(*number),
+        _ => Version::STANDARD,
+    }
+}
+
+/// The field of a version; nothing for version 1.
+fn version_field(version: Version) -> Vec<u8> {
+    match version {
+        Version::STANDARD => vec![],
+        Version(number) => vec![VERSION_TAG, 1, 0, number],
+    }
 }
 
 /// The field of a channel: tag 1 where that holds its sides, else tag 3.
@@ -166,29 +235,37 @@ fn step_numbers(step: &Step) -> [u32; 3] {
     [flags(step).into(), step.first.into(), step.number.into()]
 }
 
-/// Writes the record of channels and steps given as numbers over the front of
-/// `record`, and gives its length: four numbers a channel (width, height, two
-/// shifts, both 255 for meta), three a step (flags, first channel, number; flag
-/// bit 0 horizontal, bit 1 in place). A number too large for its place is
+/// Writes the record of version, channels and steps given as numbers over the front
+/// of `record`, and gives its length: version 1 or 2, four numbers a channel (width,
+/// height, two shifts, both 255 for meta), three a step (flags, first channel, number;
+/// flag bit 0 horizontal, bit 1 in place). A number too large for its place is
 /// refused, never cut. [`RECORD_ROOM`] bytes hold every record.
 ///
 /// ```
 /// use squeeze::{write_record, Refusal, RECORD_ROOM};
 ///
 /// let mut record = [0; RECORD_ROOM];
-/// let length = write_record(&[20, 9, 0, 0], &[], &mut record)?;
+/// let length = write_record(1, &[20, 9, 0, 0], &[], &mut record)?;
 /// assert_eq!(record[..length], [1, 6, 0, 20, 0, 9, 0, 0, 0]);
 ///
-/// let wide = write_record(&[1_048_576, 9, 0, 0], &[], &mut record);
+/// let wide = write_record(1, &[1_048_576, 9, 0, 0], &[], &mut record);
 /// assert_eq!(wide, Err(Refusal::Form));
+/// let unknown = write_record(258, &[20, 9, 0, 0], &[], &mut record);
+/// assert_eq!(unknown, Err(Refusal::Form));
 /// # Ok::<(), Refusal>(())
 /// ```
-pub fn write_record(channels: &[u32], steps: &[u32], record: &mut [u8]) -> Result<usize, Refusal> {
+pub fn write_record(
+    version: u32,
+    channels: &[u32],
+    steps: &[u32],
+    record: &mut [u8],
+) -> Result<usize, Refusal> {
     let mut length = [0];
     // SAFETY: references are aligned and not null, for empty slices too, and
     // mutable ones overlap nothing.
     answer(unsafe {
         ffi::squeeze_record(
+            version,
             channels.as_ptr(),
             channels.len(),
             steps.as_ptr(),

@@ -10,12 +10,14 @@ use std::fmt;
 pub enum Refusal {
     /// 1: a field's head or its stated length runs past the record.
     CutField = 1,
-    /// 2: unknown tag, a length that isn't the tag's own, or a channel after a step.
+    /// 2: unknown tag, a length that isn't the tag's own, a channel after a step, or
+    /// tag 4 after another field.
     BadField = 2,
     /// 3: no channel, more than 256 channels or more than 64 steps.
     Count = 3,
     /// 4: shifts out of range, a meta channel after another, unknown flag bits, a
-    /// side above 1,048,575, or tag 3 for a channel that fits tag 1.
+    /// side above 1,048,575, tag 3 for a channel that fits tag 1, tag 4 with another
+    /// value than 2, or a version other than 1 or 2.
     Form = 4,
     /// 5: more than 16,777,216 samples.
     TooManySamples = 5,
@@ -73,11 +75,14 @@ impl Refusal {
     fn reason(self) -> &'static str {
         match self {
             Refusal::CutField => "a field's head or its stated length runs past the record",
-            Refusal::BadField => "unknown tag, wrong field length, or a channel after a step",
+            Refusal::BadField => {
+                "unknown tag, wrong field length, a channel after a step, or tag 4 not first"
+            }
             Refusal::Count => "there must be 1 to 256 channels and at most 64 steps",
             Refusal::Form => {
                 "shifts must be 0 to 30 or both 255, meta channels first, unknown flag bits 0, \
-                 sides at most 1,048,575, tag 3 for a side above 65,535 only"
+                 sides at most 1,048,575, tag 3 for a side above 65,535 only, tag 4 for \
+                 version 2 only, versions 1 or 2"
             }
             Refusal::TooManySamples => "more than 16,777,216 samples",
             Refusal::StepRange => "a step has no channels or ends past the last channel",

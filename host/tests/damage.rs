@@ -1,7 +1,7 @@
 //! Damaged records: sound ones cut at each byte, with each byte changed, with
 //! a byte more or less.
 
-use squeeze::{Record, Step};
+use squeeze::{Record, Step, Version};
 use squeeze_compare::random::Random;
 use squeeze_compare::runs::every_function;
 use squeeze_compare::{lists, must, records, Tally};
@@ -35,6 +35,11 @@ fn sound() -> Vec<Vec<u8>> {
             .channel(7, 5)
             .shifted_channel(65_537, 0, 1, 2)
             .step(step(false, false, 0, 2)),
+        Record::under(Version::HOUSE).channel(33, 9),
+        Record::under(Version::HOUSE)
+            .meta_channel(6, 2)
+            .channel(20, 9)
+            .step(step(true, false, 1, 1)),
     ];
     records.map(|record| record.bytes().to_vec()).to_vec()
 }

@@ -177,6 +177,7 @@ fn record() {
             // SAFETY: as above.
             let answer = unsafe {
                 ffi::squeeze_record(
+                    1,
                     at(&mut channels, nulls, 0),
                     channels.len(),
                     at(&mut steps, nulls, 1),

@@ -126,20 +126,30 @@ fn records_of_numbers() {
         let end = k % 2 == 0;
         let parts = parts::some(&mut random);
         let room = parts.bytes();
-        let Parts { channels, steps } = parts;
+        let Parts {
+            version,
+            channels,
+            steps,
+        } = parts;
         let room = room.saturating_sub(random.below(2));
         let (mut model_record, mut model_length) = (vec![7; room], [9]);
         let record = f2.lend(&model_record, end);
         let length = f3.lend(&model_length, end);
         let answer = raw::record(
+            version,
             f0.lend(&channels, end),
             f1.lend(&steps, end),
             record,
             length,
         );
-        let expected =
-            record_writer::write_record(&channels, &steps, &mut model_record, &mut model_length);
-        assert_eq!(answer, expected, "{channels:?} {steps:?}");
+        let expected = record_writer::write_record(
+            version,
+            &channels,
+            &steps,
+            &mut model_record,
+            &mut model_length,
+        );
+        assert_eq!(answer, expected, "{version} {channels:?} {steps:?}");
         assert!(record == model_record && length == model_length);
         tally.add(answer);
     }

@@ -1,7 +1,7 @@
 //! The coarse count with palettes, which are meta channels of any size at the
-//! front of a list (document 02, A.2).
+//! front of a list (document 02, A.2), under both versions.
 
-use squeeze::{layout, Channel, Layout, Record, Step};
+use squeeze::{layout, Channel, Layout, Record, Step, Version};
 use squeeze_compare::{lists, must};
 
 fn step(horizontal: bool, first: u16) -> Step {
@@ -48,18 +48,23 @@ fn by_hand() {
     }
 }
 
-/// Every list of one to three of these, with and without a step: core and model
-/// agree, and the laws that clerks rely on hold. Enough lists are accepted, and
-/// enough of them have a palette with a side above 8.
 #[test]
 fn every_short_list() {
+    short_lists(Version::STANDARD, 8);
+    short_lists(Version::HOUSE, 32);
+}
+
+/// Every list of one to three of these, with and without a step: core and model
+/// agree, and the laws that clerks rely on hold. Enough lists are accepted, and
+/// enough of them have a palette with a side above the version's.
+fn short_lists(version: Version, side: u32) {
     let kinds = [
         Channel::meta(1, 1),
         Channel::meta(300, 1),
-        Channel::meta(8, 9),
-        Channel::new(8, 8),
-        Channel::new(9, 8),
-        Channel::new(8, 9),
+        Channel::meta(side, side + 1),
+        Channel::new(side, side),
+        Channel::new(side + 1, side),
+        Channel::new(side, side + 1),
         Channel::new(1, 1),
     ];
     let mut lists: Vec<Vec<Channel>> = kinds.map(|kind| vec![kind]).to_vec();
@@ -70,20 +75,22 @@ fn every_short_list() {
     let (mut accepted, mut palettes) = (0, 0);
     for list in &lists {
         for steps in [&[][..], &[step(true, 0)], &[step(false, 1)]] {
-            let record = list.iter().fold(Record::new(), |r, c| r.add_channel(*c));
+            let record = Record::under(version);
+            let record = list.iter().fold(record, |r, c| r.add_channel(*c));
             let record = steps.iter().fold(record, |r, s| r.step(*s));
             if must(lists::compare(record.bytes())) == 0 {
+                let layout = layout(record.bytes()).unwrap();
                 accepted += 1;
-                palettes += usize::from(check_laws(&layout(record.bytes()).unwrap()));
+                palettes += usize::from(check_laws(&layout, side));
             }
         }
     }
     assert!(accepted > 500 && palettes > 100, "{accepted}, {palettes}");
 }
 
-/// Gives whether a meta channel has a side above 8.
-fn check_laws(layout: &Layout) -> bool {
-    let large = |c: &Channel| c.width > 8 || c.height > 8;
+/// Gives whether a meta channel has a side above the version's.
+fn check_laws(layout: &Layout, side: u32) -> bool {
+    let large = |c: &Channel| c.width > side || c.height > side;
     let metas = layout.metas();
     assert!(metas <= layout.coarse, "every leading meta channel counts");
     let others = &layout.channels[metas..];

@@ -8,7 +8,7 @@ mod command;
 mod pnm;
 
 use pnm::Picture;
-use squeeze::{write_pyramid, Channel, Record};
+use squeeze::{write_pyramid, Channel, Record, Version};
 use std::fs;
 use std::path::{Path, PathBuf};
 
@@ -128,24 +128,32 @@ fn flat_pictures_give_flat_previews() {
         (640, 480),
     ] {
         for channels in [1, 3] {
-            let shades = [40_000, 7, 65_535];
-            let mut flat = picture(width, height, channels, 65_535);
-            let samples = flat.samples.iter_mut().enumerate();
-            samples.for_each(|(k, sample)| *sample = shades[k % channels]);
-            let small = coarse::preview(&flat).unwrap();
-            let Picture {
-                width: w,
-                height: h,
-                samples,
-                ..
-            } = small.picture;
-            assert!((1..=8).contains(&w) && (1..=8).contains(&h), "{w} by {h}");
-            assert_eq!(samples.len(), w * h * channels);
-            assert!(small.arrived <= samples.len());
-            for (k, sample) in samples.into_iter().enumerate() {
-                assert_eq!(sample, shades[k % channels], "{width} by {height}");
+            for (version, side) in [(Version::STANDARD, 8), (Version::HOUSE, 32)] {
+                flat_preview(&picture(width, height, channels, 65_535), version, side);
             }
         }
+    }
+}
+
+/// A picture of one shade in each channel, like `picture`: the preview has no side
+/// above the version's, and these shades.
+fn flat_preview(picture: &Picture, version: Version, side: usize) {
+    let shades = [40_000, 7, 65_535];
+    let mut flat = picture.clone();
+    let samples = flat.samples.iter_mut().enumerate();
+    samples.for_each(|(k, sample)| *sample = shades[k % picture.channels]);
+    let small = coarse::preview(&flat, version).unwrap();
+    let Picture {
+        width: w,
+        height: h,
+        samples,
+        ..
+    } = small.picture;
+    assert!((1..=side).contains(&w) && (1..=side).contains(&h));
+    assert_eq!(samples.len(), w * h * picture.channels);
+    assert!(small.arrived <= samples.len());
+    for (k, sample) in samples.into_iter().enumerate() {
+        assert_eq!(sample, shades[k % picture.channels], "{w} by {h}");
     }
 }
 
@@ -153,24 +161,32 @@ fn flat_pictures_give_flat_previews() {
 fn small_pictures_arrive_whole() {
     // A graymap without steps is its own preview; of a pixmap the first channel.
     let gray = picture(8, 5, 1, 255);
-    let small = coarse::preview(&gray).unwrap();
+    let small = coarse::preview(&gray, Version::STANDARD).unwrap();
     assert_eq!((small.picture, small.arrived), (gray, 40));
     let colour = picture(8, 6, 3, 255);
-    let small = coarse::preview(&colour).unwrap();
+    let small = coarse::preview(&colour, Version::STANDARD).unwrap();
     assert_eq!((small.picture.width, small.picture.height), (8, 6));
     assert_eq!(small.arrived, 8 * 6 + 2 * 4 * 3);
     let first = |p: &Picture| p.samples.iter().step_by(3).copied().collect::<Vec<u16>>();
     assert_eq!(first(&small.picture), first(&colour));
+    // Under version 2 each channel does, up to 32 by 32.
+    for (width, height, channels) in [(32, 32, 1), (32, 20, 3), (9, 31, 3)] {
+        let whole = picture(width, height, channels, 255);
+        let small = coarse::preview(&whole, Version::HOUSE).unwrap();
+        assert_eq!(small.arrived, width * height * channels);
+        assert_eq!(small.picture, whole);
+    }
 }
 
 #[test]
 fn palettes_are_not_shown() {
-    for channels in [1, 3] {
-        let drawn = picture(20, 9, channels, 255);
-        let alone = coarse::preview(&drawn).unwrap();
+    for (channels, version) in [(1, 1), (3, 1), (1, 2), (3, 2)] {
+        let version = Version(version);
+        let drawn = picture(40, 9, channels, 255);
+        let alone = coarse::preview(&drawn, version).unwrap();
         let palettes = [Channel::meta(300, 1), Channel::meta(3, 2)];
-        let list = [&palettes[..], &vec![Channel::new(20, 9); channels]].concat();
-        let record = Record::from_parts(&list, &[]).unwrap();
+        let list = [&palettes[..], &vec![Channel::new(40, 9); channels]].concat();
+        let record = Record::from_parts_under(version, &list, &[]).unwrap();
         let colours = vec![77; 306];
         let pyramid = write_pyramid(record.bytes(), &[colours, drawn.planes()].concat()).unwrap();
         let seats = coarse::shown(record.bytes(), &pyramid, channels, 255).unwrap();
@@ -187,7 +203,7 @@ fn averages_of_a_pair() {
         samples: samples.to_vec(),
         ..picture(16, 1, 1, 255)
     };
-    let small = coarse::preview(&gray).unwrap();
+    let small = coarse::preview(&gray, Version::STANDARD).unwrap();
     assert_eq!(small.picture.samples, [0, 1, 7, 6, 128, 127, 3, 8]);
 }
 
@@ -223,6 +239,10 @@ fn the_command() {
     assert_eq!(text, "7 by 8 samples from the first 88 of 18000");
     let small = pnm::parse(&fs::read(&output).unwrap()).unwrap();
     assert_eq!((small.width, small.height, small.channels), (21, 24, 3));
+    let text = run(&[&input, &output, Path::new("1"), Path::new("2")]).unwrap();
+    assert_eq!(text, "25 by 30 samples from the first 2250 of 18000");
+    let small = pnm::parse(&fs::read(&output).unwrap()).unwrap();
+    assert_eq!((small.width, small.height, small.channels), (25, 30, 3));
 }
 
 #[test]
@@ -236,6 +256,16 @@ fn a_bad_file_leaves_no_output() {
     for factor in ["0", "-1", "257", "x", ""] {
         let message = run(&[&input, &output, Path::new(factor)]).unwrap_err();
         assert!(message.contains("factor"), "{message}");
+    }
+    for (factor, version, says) in [
+        ("65", "2", "factor"),
+        ("1", "0", "version"),
+        ("1", "x", "version"),
+        ("1", "256", "version"),
+        ("1", "3", "refused 4"),
+    ] {
+        let message = run(&[&input, &output, Path::new(factor), Path::new(version)]).unwrap_err();
+        assert!(message.contains(says), "{message}");
     }
     assert!(run(&[&input]).unwrap_err().contains("usage"));
     assert!(!output.exists());

@@ -1,5 +1,6 @@
 //! The record's writer: channels and steps as numbers, every refusal, every
 //! limit of a number, of a count and of a slice. What is written is read back.
+//! Versions have a test of their own, `versions.rs`.
 
 use squeeze_compare::parts::{self, Parts, CUTS, VALUES};
 use squeeze_compare::random::Random;
@@ -8,6 +9,7 @@ use squeeze_compare::{must, Tally};
 
 fn parts(channels: &[[u32; 4]], steps: &[[u32; 3]]) -> Parts {
     Parts {
+        version: 1,
         channels: channels.concat(),
         steps: steps.concat(),
     }
@@ -133,9 +135,12 @@ fn refusals() {
         (parts(&[meta(1, 1)], &[[2, 0, 1]; 64]), 0, "64 steps"),
     ];
     let mut tally = Tally::default();
-    for (parts, expected, why) in &cases {
-        assert_eq!(must(parts.compare()), *expected, "{why}");
-        tally.add(*expected);
+    for (parts, expected, why) in cases {
+        assert_eq!(must(parts.compare()), expected, "{why}");
+        tally.add(expected);
+        let unknown = Parts { version: 3, ..parts };
+        let expected = if expected == 3 { 3 } else { 4 };
+        assert_eq!(must(unknown.compare()), expected, "{why}, version 3");
     }
     assert_eq!(tally.met(), [0, 3, 4, 5, 6, 7, 8, 9, 10, 11, 12]);
 }
@@ -225,6 +230,7 @@ fn counts_and_remainders() {
         for steps in [0, 1, 2, 63, 64, 65, 66] {
             // A step in place on the first of the meta channels, always allowed.
             let whole = Parts {
+                version: 1,
                 channels: meta(2, 1).repeat(channels),
                 steps: [2, 0, 1].repeat(steps),
             };
@@ -290,6 +296,7 @@ fn small_lists_exhaustively() {
         let (hshift, vshift) = (shifts[code / 64 % 7], shifts[code / 448]);
         for steps in &steps {
             let parts = Parts {
+                version: 1,
                 channels: vec![w, h, hshift, vshift],
                 steps: steps.clone(),
             };

@@ -2,7 +2,7 @@
 //! run and the writer, an accepted one on a round trip in both directions.
 
 use squeeze_compare::random::Random;
-use squeeze_compare::records::strip_field;
+use squeeze_compare::records::{strip_field, HOUSE};
 use squeeze_compare::runs::every_function;
 use squeeze_compare::{must, Tally};
 
@@ -195,6 +195,31 @@ fn strips_and_channels() {
     }
     check.tally.print("a strip and a channel");
     assert_eq!(check.tally.met(), [0, 4, 5, 6, 8, 9, 11]);
+}
+
+/// Every record of up to four of these fields, tag 4 in every place among them.
+#[test]
+fn versions_among_fields() {
+    let mut check = Check::new();
+    let fields: [&[u8]; 8] = [
+        &HOUSE,
+        &[4, 1, 0, 1],
+        &[4, 0, 0],
+        &[4, 2, 0, 2, 0],
+        &[1, 6, 0, 9, 0, 9, 0, 255, 255],
+        &[1, 6, 0, 9, 0, 9, 0, 0, 0],
+        &[1, 6, 0, 33, 0, 1, 0, 0, 30],
+        &[2, 5, 0, 3, 0, 0, 1, 0],
+    ];
+    for number in 0..=4 {
+        words(&[0, 1, 2, 3, 4, 5, 6, 7], number, &mut |word| {
+            let record: Vec<&[u8]> = word.iter().map(|&k| fields[usize::from(k)]).collect();
+            check.record(&record.concat());
+        });
+    }
+    check.tally.print("versions among fields");
+    assert_eq!(check.tally.total(), 1 + 8 + 64 + 512 + 4096);
+    assert_eq!(check.tally.met(), [0, 2, 3, 4, 10, 11]);
 }
 
 #[test]

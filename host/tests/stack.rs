@@ -117,6 +117,7 @@ impl Calls<'_> {
             Err(_) => 3,
         };
         let too_many = || Parts {
+            version: 1,
             channels: [1, 1, 0, 0].repeat(257),
             steps: vec![],
         };
@@ -133,14 +134,19 @@ impl Calls<'_> {
 
     /// One call of a function; gives the answer.
     fn call(&mut self, function: &str) -> u32 {
-        let Calls { record, input, .. } = self;
+        let Calls {
+            record,
+            parts,
+            input,
+            ..
+        } = self;
         let (output, work) = (&mut self.output, &mut self.work);
         let (text, length) = (&mut self.text, &mut self.length);
         match function {
             "rebuild" => number(&squeeze::rebuild(record, input, output, work)),
             "write" => number(&squeeze::write(record, input, output, work)),
             "listing" => raw::listing(record, text, length),
-            "record" => raw::record(&self.parts.channels, &self.parts.steps, text, length),
+            "record" => raw::record(parts.version, &parts.channels, &parts.steps, text, length),
             "tile" => tiles(),
             _ => rectangle(),
         }
@@ -186,7 +192,8 @@ fn step(horizontal: bool, in_place: bool, first: usize, number: u16) -> Step {
     }
 }
 
-/// Records with as much of everything as there may be: bytes, answer, why.
+/// Records with as much of everything as there may be, under both versions, which
+/// answer alike: bytes, answer, why.
 #[rustfmt::skip]
 fn full_records() -> Vec<(Vec<u8>, u32, &'static str)> {
     let plain = |count, w, h| (0..count).fold(Record::new(), |r, _| r.channel(w, h));
@@ -207,8 +214,8 @@ fn full_records() -> Vec<(Vec<u8>, u32, &'static str)> {
         (steps(plain(4, 40, 40), &|k| step(k % 2 == 0, false, 0, [4, 3][k % 2]), 60), 0, "60 ranges"),
         (plain(128, 9, 9).step(step(true, true, 0, 128)), 0, "256 channels after one step"),
         (plain(256, 1, 1), 0, "256 channels, no step"),
-        (plain(1, 4097, 4095), 0, "a default plan of 19 steps"),
-        (plain(3, 2049, 2729), 0, "a default plan of 20 steps, two of them not in place"),
+        (plain(1, 4097, 4095), 0, "a default plan of 19 steps, under version 2 of 15"),
+        (plain(3, 2049, 2729), 0, "a default plan of 20 steps, two of them not in place, under version 2 of 14"),
         (plain(1, 1_048_575, 16), 0, "a default plan on the longest side"),
         (plain(1, 16, 1_048_575), 0, "a default plan on the longest side, across"),
         (steps(meta(192, 65_536, 1), &in_first, 64), 0, "256 channels after 64 steps, strips among them"),
@@ -220,7 +227,11 @@ fn full_records() -> Vec<(Vec<u8>, u32, &'static str)> {
         (plain(257, 1, 1), 3, "257 channels"),
         (steps(plain(192, 4, 3), &out_each, 65), 3, "65 steps"),
     ];
-    cases.map(|(record, answer, why)| (record.bytes().to_vec(), answer, why)).to_vec()
+    let under = |version: &[u8]| {
+        let record = |record: &Record| [version, record.bytes()].concat();
+        cases.iter().map(|(r, answer, why)| (record(r), *answer, *why)).collect::<Vec<_>>()
+    };
+    [under(&[]), under(&records::HOUSE)].concat()
 }
 
 /// A list and up to 64 steps, all accepted.

@@ -191,20 +191,7 @@ fn cut_at_every_byte() {
         step(3, 0, 1),
         step(0, 2, 3),
     ];
-    let whole = fields.concat();
-    let mut ends = vec![(0, 3)];
-    for number in 1..=fields.len() {
-        let answer = if number == 1 { 11 } else { 0 };
-        ends.push((fields[..number].concat().len(), answer));
-    }
-    let (mut random, mut tally) = (Random::new(122), Tally::default());
-    for length in 0..=whole.len() {
-        let end = ends.iter().find(|end| end.0 == length);
-        let expected = end.map_or(1, |end| end.1);
-        let answer = must(every_function(&mut random, &whole[..length], 4096));
-        assert_eq!(answer, expected, "{length} bytes");
-        tally.add(answer);
-    }
+    let tally = runs::cuts(122, 4096, &fields, &[3, 11, 0, 0, 0, 0, 0, 0]);
     assert_eq!((tally.0[1], tally.met()), (73 - 7, vec![0, 1, 3, 11]));
 }
 
@@ -307,6 +294,7 @@ fn sides_in_lists() {
     for Row { side, list, .. } in SIDES {
         for (w, h) in both_ways(side) {
             let parts = Parts {
+                version: 1,
                 channels: vec![5, 3, 255, 255, w, h, 2, 1],
                 steps: vec![3, 0, 1],
             };
@@ -332,6 +320,7 @@ fn sides_in_lists() {
 #[rustfmt::skip]
 fn lists_by_hand() {
     let list = |channels: &[[u32; 4]], steps: &[[u32; 3]]| Parts {
+        version: 1,
         channels: channels.concat(),
         steps: steps.concat(),
     };
@@ -545,7 +534,7 @@ fn records_of_the_vectors() {
         let bytes = fs::read(&path).expect("a record that can be read");
         let parts = Parts::of_record(&bytes).expect("a form");
         let mut record = vec![0; squeeze::RECORD_ROOM];
-        let length = write_record(&parts.channels, &parts.steps, &mut record).unwrap();
+        let length = write_record(1, &parts.channels, &parts.steps, &mut record).unwrap();
         assert_eq!(record[..length], bytes, "{}", path.display());
         written += 1;
     }
@@ -572,27 +561,6 @@ fn default_plans() {
         let [first, second] = [0, 1].map(|k| layout.channels[k]);
         assert!(first.width <= 8 && first.height <= 8 && first.samples() >= second.samples());
     }
-}
-
-/// No default plan has more than 20 steps. Their number grows only where a side
-/// passes a power of two, so the sides just past one are the ones that matter.
-#[test]
-fn longest_default_plans() {
-    let mut lengths = Vec::new();
-    for code in 0..20 * 20 {
-        let (w, h) = ((1 << (code % 20)) + 1, (1 << (code / 20)) + 1);
-        let one = Record::new().channel(w, h);
-        let three = one.clone().channel(w, h).channel(1, 1);
-        for record in [one, three] {
-            if must(lists::compare(record.bytes())) == 0 {
-                lengths.push(layout(record.bytes()).unwrap().steps.len());
-            }
-        }
-    }
-    assert_eq!(lengths.iter().max(), Some(&20));
-    // One channel where the powers' exponents add up to at most 23; with a second
-    // like it, 22.
-    assert_eq!(lengths.len(), 280 + 264);
 }
 
 /// The longest strips through writer and plan run: compared with plain Rust, and

@@ -312,15 +312,14 @@ fn judge_version(bytes: &[u8]) -> u32
     ensures { λ r. ⌜ r ≡ Reading.judgeVersionField (now (bytes .entry)) ⌝ }
 {
     if !field_inside(bytes) {
-        return REFUSED_OUTSIDE;
+        REFUSED_OUTSIDE
+    } else if !has_head(VERSION_TAG, VERSION_LENGTH, bytes) {
+        REFUSED_FIELD
+    } else if bytes[HEAD_LENGTH] != VERSION_VALUE {
+        REFUSED_FORM
+    } else {
+        0
     }
-    if !has_head(VERSION_TAG, VERSION_LENGTH, bytes) {
-        return REFUSED_FIELD;
-    }
-    if bytes[HEAD_LENGTH] != VERSION_VALUE {
-        return REFUSED_FORM;
-    }
-    0
 }
 
 // The version, the list and the steps of a record, by questions 1 to 4.

@@ -2,9 +2,9 @@
 
 use crate::random::Random;
 use crate::runs::Run;
-use crate::strips::{self, Way, WAYS};
 use crate::tiles::Tile;
-use crate::{lists, parts, records, rects};
+use crate::ways::Ways;
+use crate::{lists, parts, records, rects, strips, versions};
 use squeeze::{GridQuery, Kind, LISTING_ROOM, RECORD_ROOM};
 use squeeze_model::{list, listing, record};
 
@@ -22,26 +22,37 @@ pub const FUNCTIONS: [(&str, &[usize]); 6] = [
 /// Answers 0 to 14.
 pub const ANSWERS: usize = 15;
 
-/// The answer and the way in which a strip was met, if one was; or what differs.
-type Met = Result<(u32, Option<Way>), String>;
+/// The answer of a call, and the ways in which it met a strip and a version, if it
+/// did.
+struct Met {
+    answer: u32,
+    strip: Option<strips::Way>,
+    version: Option<versions::Way>,
+}
+
+/// What was met, or what differs.
+type Call = Result<Met, String>;
 
 /// How often each function gave each answer, and what differed.
-#[derive(Default)]
 pub struct Report {
     /// One row for each function, one column for each answer.
     pub met: [[u64; ANSWERS]; FUNCTIONS.len()],
     /// How often strips were met in each of their ways.
-    pub strips: [u64; WAYS.len()],
+    pub strips: Ways<strips::Way>,
+    /// How often versions were.
+    pub versions: Ways<versions::Way>,
     /// The first differences found.
     pub differences: Vec<String>,
 }
 
 impl Report {
-    /// The ways in which no call met a strip.
-    pub fn strips_never_met(&self) -> Vec<Way> {
-        let ways = WAYS.iter().zip(self.strips);
-        let never = ways.filter(|(_, times)| *times == 0);
-        never.map(|((way, _), _)| *way).collect()
+    fn new() -> Report {
+        Report {
+            met: Default::default(),
+            strips: Ways::new(&strips::WAYS),
+            versions: Ways::new(&versions::WAYS),
+            differences: vec![],
+        }
     }
 
     /// The answers that a function can give and didn't.
@@ -54,14 +65,12 @@ impl Report {
         missing
     }
 
-    fn add(&mut self, function: usize, met: Met) {
-        match met {
-            Ok((answer, way)) => {
-                self.met[function][answer as usize] += 1;
-                if let Some(way) = way {
-                    let at = WAYS.iter().position(|known| known.0 == way);
-                    self.strips[at.expect("every way is listed")] += 1;
-                }
+    fn add(&mut self, function: usize, call: Call) {
+        match call {
+            Ok(met) => {
+                self.met[function][met.answer as usize] += 1;
+                self.strips.add(met.strip);
+                self.versions.add(met.version);
             }
             Err(text) => self.differences.push(text),
         }
@@ -71,7 +80,7 @@ impl Report {
 /// That many calls. It stops at the tenth difference.
 pub fn run(count: u64, seed: u64) -> Report {
     let mut random = Random::new(seed);
-    let mut report = Report::default();
+    let mut report = Report::new();
     for _ in 0..count {
         match random.below(10) {
             0..=1 => report.add(0, whole_run(&mut random, true)),
@@ -93,7 +102,7 @@ pub fn run(count: u64, seed: u64) -> Report {
 const LARGEST: usize = 1 << 14;
 const LARGEST_STRIP: usize = 1 << 18;
 
-fn whole_run(random: &mut Random, back: bool) -> Met {
+fn whole_run(random: &mut Random, back: bool) -> Call {
     let bytes = records::some(random);
     let samples = match record::judge(&bytes) {
         Ok(plan) => list::total(plan.layout()),
@@ -119,7 +128,11 @@ fn whole_run(random: &mut Random, back: bool) -> Met {
         work: &work,
     };
     let answer = run.compare()?.answer;
-    Ok((answer, strips::of_run(&run, answer)))
+    Ok(Met {
+        answer,
+        strip: strips::of_run(&run, answer),
+        version: versions::of_record(&bytes, answer),
+    })
 }
 
 /// Sides of a tile around its limits.
@@ -147,7 +160,7 @@ fn fitting(length: usize) -> usize {
     }
 }
 
-fn tile(random: &mut Random) -> Met {
+fn tile(random: &mut Random) -> Call {
     let horizontal = random.pick(&[0, 0, 0, 1, 1, 1, 2, u32::MAX]);
     let mut sizes = tile_sizes(random, horizontal != 0);
     if random.once_in(8) {
@@ -186,7 +199,11 @@ fn tile(random: &mut Random) -> Met {
         out: &out,
     };
     let answer = tile.compare()?.answer;
-    Ok((answer, strips::of_tile(&sizes, answer)))
+    Ok(Met {
+        answer,
+        strip: strips::of_tile(&sizes, answer),
+        version: None,
+    })
 }
 
 /// Sizes that mostly fit an output rectangle.
@@ -221,17 +238,21 @@ fn tile_sizes(random: &mut Random, horizontal: bool) -> [(usize, usize); 3] {
     }
 }
 
-fn listing_text(random: &mut Random) -> Met {
+fn listing_text(random: &mut Random) -> Call {
     let bytes = records::some(random);
     lists::compare(&bytes)?;
     let length = listing::listing(&bytes).map_or(40, |text| text.len());
     let rooms = [0, length - 1, length, length, length + 1, LISTING_ROOM];
     let (room, numbers) = (random.pick(&rooms), random.pick(&[0, 1, 1, 1, 1, 1, 2]));
     let answer = lists::compare_room(&bytes, room, numbers)?;
-    Ok((answer, strips::of_record(&bytes, answer)))
+    Ok(Met {
+        answer,
+        strip: strips::of_record(&bytes, answer),
+        version: versions::of_record(&bytes, answer),
+    })
 }
 
-fn record_of_numbers(random: &mut Random) -> Met {
+fn record_of_numbers(random: &mut Random) -> Call {
     let parts = parts::some(random);
     parts.compare()?;
     let bytes = parts.bytes();
@@ -245,10 +266,14 @@ fn record_of_numbers(random: &mut Random) -> Met {
     ];
     let (room, numbers) = (random.pick(&rooms), random.pick(&[0, 1, 1, 1, 1, 1, 2]));
     let (answer, _) = parts.compare_room(room, numbers)?;
-    Ok((answer, strips::of_parts(&parts, answer)))
+    Ok(Met {
+        answer,
+        strip: strips::of_parts(&parts, answer),
+        version: versions::of_parts(&parts, answer),
+    })
 }
 
-fn grid_rect(random: &mut Random) -> Met {
+fn grid_rect(random: &mut Random) -> Call {
     let side = |random: &mut Random| match random.below(3) {
         0 => random.pick(&[0, 1, 127, 128, 1023, 1024, 1025, 8191, 8192, 65_535]),
         1 => random.below(4096) as u32,
@@ -277,5 +302,9 @@ fn grid_rect(random: &mut Random) -> Met {
         _ => {}
     }
     let answer = rects::compare(&query, random.pick(&[4, 4, 4, 4, 4, 4, 0, 3, 5]))?;
-    Ok((answer, strips::of_rect(&query, answer)))
+    Ok(Met {
+        answer,
+        strip: strips::of_rect(&query, answer),
+        version: None,
+    })
 }

@@ -17,6 +17,8 @@ pub mod rects;
 pub mod runs;
 pub mod strips;
 pub mod tiles;
+pub mod versions;
+pub mod ways;
 
 /// What both sides answered, and the samples they left in the output slice.
 #[derive(Clone, Debug, PartialEq, Eq)]

@@ -2,7 +2,7 @@
 
 use crate::guard::Lent;
 use crate::{expect, raw};
-use squeeze_model::list::{coarse_count, Channel, Step};
+use squeeze_model::list::{Channel, Step};
 use squeeze_model::plan::Plan;
 use squeeze_model::{listing, record};
 
@@ -55,9 +55,10 @@ fn as_layout(plan: &Plan) -> squeeze::Layout {
         shifts: c.shifts,
     };
     squeeze::Layout {
+        version: squeeze::Version(plan.version.number() as u8),
         steps: plan.steps.iter().map(step).collect(),
         channels: plan.layout().iter().map(channel).collect(),
-        coarse: coarse_count(plan.layout()),
+        coarse: plan.coarse(),
     }
 }
 

@@ -3,12 +3,15 @@
 use crate::guard::Lent;
 use crate::random::Random;
 use crate::{expect, lists, number, raw, records};
-use squeeze::{Channel, Record, Step, RECORD_ROOM};
+use squeeze::{Channel, Record, Refusal, Step, Version, RECORD_ROOM};
 use squeeze_model::{record, record_writer};
 
-/// Channels and steps as numbers: four and three each, or a remainder too.
-#[derive(Clone, Debug, Default, PartialEq, Eq)]
+/// Version, channels and steps as numbers: one, four and three each, or a remainder
+/// too.
+#[derive(Clone, Debug, PartialEq, Eq)]
 pub struct Parts {
+    /// The version.
+    pub version: u32,
     /// Width, height and two shifts of each channel.
     pub channels: Vec<u32>,
     /// Flags, first channel and number of each step.
@@ -19,7 +22,11 @@ impl Parts {
     /// The numbers of a record of good form.
     pub fn of_record(bytes: &[u8]) -> Option<Parts> {
         let record = record::read(bytes).ok()?;
-        let mut parts = Parts::default();
+        let mut parts = Parts {
+            version: record.version.number(),
+            channels: vec![],
+            steps: vec![],
+        };
         for c in &record.channels {
             let (h, v) = c.shifts.unwrap_or((255, 255));
             let numbers = [c.width, c.height, h.into(), v.into()];
@@ -37,7 +44,17 @@ impl Parts {
         let (channels, _) = self.channels.as_chunks::<4>();
         let long = |c: &&[u32; 4]| c[0] > 65_535 || c[1] > 65_535;
         let strips = channels.iter().filter(long).count();
-        13 * strips + 9 * (channels.len() - strips) + 8 * (self.steps.len() / 3)
+        let version = if self.version == 2 { 4 } else { 0 };
+        version + 13 * strips + 9 * (channels.len() - strips) + 8 * (self.steps.len() / 3)
+    }
+
+    /// What the model answers, with room enough.
+    pub fn model_answer(&self) -> u32 {
+        self.model(&mut [0; RECORD_ROOM], &mut [0])
+    }
+
+    fn model(&self, record: &mut [u8], length: &mut [u32]) -> u32 {
+        record_writer::write_record(self.version, &self.channels, &self.steps, record, length)
     }
 
     /// The C function with `room` bytes for the record and `numbers` numbers for
@@ -45,17 +62,13 @@ impl Parts {
     pub fn compare_room(&self, room: usize, numbers: usize) -> Result<(u32, Vec<u8>), String> {
         let before = (vec![0x23; room], vec![0xeeee_eeee; numbers]);
         let (mut model_record, mut model_length) = before.clone();
-        let expected = record_writer::write_record(
-            &self.channels,
-            &self.steps,
-            &mut model_record,
-            &mut model_length,
-        );
+        let expected = self.model(&mut model_record, &mut model_length);
         let channels = Lent::new(&self.channels, 0x5a5a_0008);
         let steps = Lent::new(&self.steps, 0x5a5a_0009);
         let mut record = Lent::new(&before.0, 0xa5);
         let mut length = Lent::new(&before.1, 0x5a5a_000a);
         let answer = raw::record(
+            self.version,
             channels.slice(),
             steps.slice(),
             record.slice_mut(),
@@ -89,11 +102,11 @@ impl Parts {
         Ok(answer)
     }
 
-    /// The safe function on the same numbers; and the record of the same channels
-    /// and steps where their types hold them.
+    /// The safe function on the same numbers; and the record of the same version,
+    /// channels and steps where their types hold them.
     fn compare_safe(&self, expected: u32, bytes: &[u8]) -> Result<(), String> {
         let mut record = vec![0x23; RECORD_ROOM];
-        let written = squeeze::write_record(&self.channels, &self.steps, &mut record);
+        let written = squeeze::write_record(self.version, &self.channels, &self.steps, &mut record);
         let same = match written {
             Ok(length) => expected == 0 && record[..length] == *bytes,
             Err(refusal) => expected == refusal.number(),
@@ -101,17 +114,12 @@ impl Parts {
         expect(same, || {
             format!("record, safe function: {written:?} for {expected}; {self:?}")
         })?;
-        let Some((channels, steps)) = self.typed() else {
-            return Ok(());
-        };
-        let built = channels
-            .iter()
-            .copied()
-            .fold(Record::new(), Record::add_channel);
-        let built = steps.iter().copied().fold(built, Record::step).checked();
-        for record in [built, Record::from_parts(&channels, &steps)] {
+        for record in self.typed_records() {
             let same = match &record {
-                Ok(record) => expected == 0 && record.bytes() == bytes,
+                Ok(record) => {
+                    let version = u32::from(record.version().0);
+                    expected == 0 && record.bytes() == bytes && version == self.version
+                }
                 Err(_) => number(&record) == expected,
             };
             expect(same, || format!("{record:?} for {expected}; {self:?}"))?;
@@ -119,9 +127,29 @@ impl Parts {
         Ok(())
     }
 
-    /// The same as channels and steps, if there is no remainder and each number
-    /// is one that its type holds.
-    fn typed(&self) -> Option<(Vec<Channel>, Vec<Step>)> {
+    /// The record in every form that the crate has for it, if types hold it.
+    fn typed_records(&self) -> Vec<Result<Record, Refusal>> {
+        let Some((version, channels, steps)) = self.typed() else {
+            return vec![];
+        };
+        let built = |empty: Record| {
+            let built = channels.iter().copied().fold(empty, Record::add_channel);
+            steps.iter().copied().fold(built, Record::step).checked()
+        };
+        let mut records = vec![
+            built(Record::under(version)),
+            Record::from_parts_under(version, &channels, &steps),
+        ];
+        if version == Version::STANDARD {
+            records.push(built(Record::new()));
+            records.push(Record::from_parts(&channels, &steps));
+        }
+        records
+    }
+
+    /// The same as version, channels and steps, if there is no remainder and each
+    /// number is one that its type holds.
+    fn typed(&self) -> Option<(Version, Vec<Channel>, Vec<Step>)> {
         let (channels, []) = self.channels.as_chunks::<4>() else {
             return None;
         };
@@ -148,7 +176,8 @@ impl Parts {
         };
         let channels: Option<_> = channels.iter().map(channel).collect();
         let steps: Option<_> = steps.iter().map(step).collect();
-        Some((channels?, steps?))
+        let version = Version(self.version.try_into().ok()?);
+        Some((version, channels?, steps?))
     }
 
     /// The core lists what it wrote, and the bytes say what was given.
@@ -197,6 +226,24 @@ pub const VALUES: [u32; 29] = [
 /// What a number that is cut to its field would lose.
 pub const CUTS: [u32; 6] = [1 << 8, 1 << 16, 1 << 20, 1 << 24, 1 << 31, u32::MAX << 16];
 
+/// Versions: both, around them, and what would be one of them if cut.
+pub const VERSIONS: [u32; 14] = [
+    0,
+    1,
+    2,
+    3,
+    4,
+    255,
+    256,
+    257,
+    258,
+    65_537,
+    65_538,
+    1 << 31,
+    u32::MAX - 1,
+    u32::MAX,
+];
+
 /// Some numbers: of a record of good form, or with a number or a count changed.
 pub fn some(random: &mut Random) -> Parts {
     let mut parts = loop {
@@ -204,6 +251,9 @@ pub fn some(random: &mut Random) -> Parts {
             break parts;
         }
     };
+    if random.once_in(6) {
+        parts.version = random.pick(&VERSIONS);
+    }
     for _ in 0..random.pick(&[0, 0, 0, 1, 1, 2]) {
         damage(random, &mut parts);
     }

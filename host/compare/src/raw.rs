@@ -50,11 +50,18 @@ pub fn listing(record: &[u8], text: &mut [u8], length: &mut [u32]) -> u32 {
     }
 }
 
-/// The record of channels and steps, and its length.
-pub fn record(channels: &[u32], steps: &[u32], record: &mut [u8], length: &mut [u32]) -> u32 {
+/// The record of version, channels and steps, and its length.
+pub fn record(
+    version: u32,
+    channels: &[u32],
+    steps: &[u32],
+    record: &mut [u8],
+    length: &mut [u32],
+) -> u32 {
     // SAFETY: as above.
     unsafe {
         squeeze_record(
+            version,
             channels.as_ptr(),
             channels.len(),
             steps.as_ptr(),

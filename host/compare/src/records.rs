@@ -21,12 +21,18 @@ pub const LONG_SIDES: [u32; 7] = [
     u32::MAX,
 ];
 
+/// Sides around the stops of both versions' default plans.
+const STOPS: [u32; 8] = [8, 9, 31, 32, 33, 63, 64, 65];
+
+/// The field that says version 2.
+pub const HOUSE: [u8; 4] = [4, 1, 0, 2];
+
 /// Numbers that a step's range may hold at a limit.
 const ENDS: [u16; 9] = [0, 1, 2, 3, 254, 255, 256, 65_534, 65_535];
 
 /// Some record: ordinary, at a limit, or any bytes; some of them damaged.
 pub fn some(random: &mut Random) -> Vec<u8> {
-    let mut bytes = match random.below(18) {
+    let mut bytes = match random.below(20) {
         0..=8 => ordinary(random),
         9 => many_channels(random),
         10 => many_steps(random),
@@ -35,8 +41,12 @@ pub fn some(random: &mut Random) -> Vec<u8> {
         13 => only_meta(random),
         14 => mixed_form(random),
         15..=16 => strips(random),
+        17..=18 => versions(random),
         _ => (0..random.below(24)).map(|_| random.bits() as u8).collect(),
     };
+    if random.once_in(10) {
+        bytes.splice(..0, HOUSE);
+    }
     for _ in 0..random.pick(&[0, 0, 0, 0, 1, 1, 2]) {
         damage(random, &mut bytes);
     }
@@ -273,6 +283,54 @@ fn strip(random: &mut Random, meta: bool) -> Channel {
     }
 }
 
+/// Channels around the stops, most of them alike, with and without steps; under
+/// version 2, or with its field otherwise.
+fn versions(random: &mut Random) -> Vec<u8> {
+    let mut channels = Vec::new();
+    if random.once_in(3) {
+        channels.push(channel(random, true));
+    }
+    let like = near_stop(random);
+    for _ in 0..random.pick(&[1, 1, 2, 3, 3, 4]) {
+        let other = near_stop(random);
+        channels.push(if random.once_in(8) { other } else { like });
+    }
+    let record = channels.iter().fold(Record::new(), add);
+    let number = random.pick(&[0, 0, 0, 1, 2, 5]);
+    let bytes = steps(random, record, channels, number);
+    with_version(random, &bytes)
+}
+
+/// A channel with a side around a stop, and often a smaller one.
+fn near_stop(random: &mut Random) -> Channel {
+    let mut near = channel(random, false);
+    near.width = random.pick(&STOPS);
+    if random.once_in(2) {
+        near.height = random.pick(&STOPS);
+    }
+    if random.once_in(2) {
+        (near.width, near.height) = (near.height, near.width);
+    }
+    near
+}
+
+/// A record, which begins with a channel of tag 1, under version 2; or the field with
+/// another value or length, late, twice, cut or alone.
+fn with_version(random: &mut Random, record: &[u8]) -> Vec<u8> {
+    let value = random.pick(&[0, 1, 3, 4, 255]);
+    let (front, rest) = record.split_at(random.pick(&[9, record.len()]));
+    match random.below(16) {
+        0..=1 => [&[4, 1, 0, value], record].concat(),
+        2 => [&[4, 0, 0], record].concat(),
+        3 => [&[4, 2, 0, 2, 0], record].concat(),
+        4 => [front, &HOUSE, rest].concat(),
+        5 => [&HOUSE, front, &HOUSE, rest].concat(),
+        6 => [&HOUSE, &HOUSE, record].concat(),
+        7 => HOUSE[..1 + random.below(4)].to_vec(),
+        _ => [&HOUSE, record].concat(),
+    }
+}
+
 /// Channels and steps in any order, some of them unsound.
 fn mixed_form(random: &mut Random) -> Vec<u8> {
     let mut bytes = Vec::new();
@@ -280,7 +338,7 @@ fn mixed_form(random: &mut Random) -> Vec<u8> {
         let (mut tag, mut length) = random.pick(&[(1, 6), (1, 6), (2, 5), (3, 10)]);
         if random.once_in(8) {
             tag = random.pick(&[0, 1, 2, 3, 4]);
-            length = random.pick(&[0, 4, 5, 6, 7, 9, 10, 11]);
+            length = random.pick(&[0, 1, 4, 5, 6, 7, 9, 10, 11]);
         }
         bytes.extend_from_slice(&[tag, length, 0]);
         let odd = random.once_in(3);
@@ -301,7 +359,7 @@ pub fn damage(random: &mut Random, bytes: &mut Vec<u8>) {
     match random.below(6) {
         0 => bytes[at] = random.bits() as u8,
         1 => bytes[at] ^= 1 << random.below(8),
-        2 => bytes[at] = random.pick(&[0, 1, 2, 3, 5, 6, 10, 15, 16, 30, 31, 255]),
+        2 => bytes[at] = random.pick(&[0, 1, 2, 3, 4, 5, 6, 10, 15, 16, 30, 31, 255]),
         3 => bytes.truncate(at),
         4 => bytes.insert(at, random.bits() as u8),
         _ => drop(bytes.remove(at)),

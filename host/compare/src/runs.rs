@@ -146,3 +146,22 @@ pub fn rows(seed: u64, largest: usize, rows: &[(Vec<u8>, u32, &str)]) -> Tally {
     }
     tally
 }
+
+/// Every function on a record of these fields, cut at every byte: after so many whole
+/// fields it is another record, answered so, and anywhere else refused with 1. Gives
+/// the answers met.
+pub fn cuts(seed: u64, largest: usize, fields: &[Vec<u8>], answers: &[u32]) -> Tally {
+    let ends = (0..=fields.len()).map(|number| fields[..number].concat().len());
+    let ends: Vec<usize> = ends.collect();
+    assert_eq!(ends.len(), answers.len(), "an answer for each end");
+    let whole = fields.concat();
+    let (mut random, mut tally) = (Random::new(seed), Tally::default());
+    for length in 0..=whole.len() {
+        let at = ends.iter().position(|&end| end == length);
+        let expected = at.map_or(refusal::CUT_FIELD, |at| answers[at]);
+        let answer = must(every_function(&mut random, &whole[..length], largest));
+        assert_eq!(answer, expected, "{length} bytes");
+        tally.add(answer);
+    }
+    tally
+}

@@ -3,8 +3,9 @@
 
 use crate::parts::Parts;
 use crate::runs::Run;
+use crate::ways::refused_field;
 use squeeze::GridQuery;
-use squeeze_model::{record, MAX_SHORT_SIDE, MAX_SIDE};
+use squeeze_model::{MAX_SHORT_SIDE, MAX_SIDE};
 
 /// What a strip was in, and the answer.
 #[derive(Clone, Copy, Debug, PartialEq, Eq)]
@@ -65,7 +66,7 @@ pub fn of_run(run: &Run, answer: u32) -> Option<Way> {
 /// The way of a record.
 pub fn of_record(bytes: &[u8], answer: u32) -> Option<Way> {
     if let 1..=4 = answer {
-        return of_field(refused_field(bytes, answer)?, answer);
+        return of_field(refused_field(bytes, answer)?.1, answer);
     }
     let longest = longest(&Parts::of_record(bytes)?)?;
     match answer {
@@ -79,24 +80,6 @@ pub fn of_record(bytes: &[u8], answer: u32) -> Option<Way> {
 fn longest(parts: &Parts) -> Option<u32> {
     let (channels, _) = parts.channels.as_chunks::<4>();
     channels.iter().map(|c| c[0].max(c[1])).max()
-}
-
-/// The field at which a record is refused with `answer`, or what is left of a cut
-/// one; none where the end lacks something.
-fn refused_field(bytes: &[u8], answer: u32) -> Option<&[u8]> {
-    let mut start = 0;
-    while let [_, low, high, body @ ..] = &bytes[start..] {
-        let length = usize::from(u16::from_le_bytes([*low, *high]));
-        if length > body.len() {
-            break;
-        }
-        let end = start + 3 + length;
-        if record::read(&bytes[..end]) == Err(answer) {
-            return Some(&bytes[start..end]);
-        }
-        start = end;
-    }
-    Some(&bytes[start..]).filter(|rest| !rest.is_empty())
 }
 
 /// The way of a field that was refused with 1 to 4.

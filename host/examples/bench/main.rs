@@ -71,17 +71,18 @@ fn main() {
     for plan in &runs {
         measure_plan(plan, budget);
     }
-    let costly = [
+    let beside = [
+        plans::house(),
         plans::idle(true),
         plans::idle(false),
         plans::shifts(),
         // As costly as any that `examples/worst.rs` finds.
         plans::doubled(255, 65_535, &[true; 7], false),
     ];
-    let costly = costly.map(|plan| (measure_plan(&plan, budget), plan.name));
+    let beside = beside.map(|plan| (measure_plan(&plan, budget), plan.name));
     print_ratios(&rows);
     print_strips(&rows, &strips);
-    print_costly(&rows, &costly);
+    print_beside(&rows, &beside);
 }
 
 /// The four rows of one picture size.
@@ -311,12 +312,12 @@ fn print_strips(rows: &[[Times; 4]], strips: &[[Times; 4]]) {
     }
 }
 
-fn print_costly(rows: &[[Times; 4]], costly: &[([Times; 2], String)]) {
+fn print_beside(rows: &[[Times; 4]], beside: &[([Times; 2], String)]) {
     let [.., [_, _, rebuild, write]] = rows else {
         unreachable!("one row per side")
     };
     println!("time per sample over that of the default plan at 4096 x 4096:");
-    for ([back, forward], name) in costly {
+    for ([back, forward], name) in beside {
         let (rebuild, write) = (back.ours / rebuild.ours, forward.ours / write.ours);
         println!("  {name}: rebuild {rebuild:.2}, write {write:.2}");
     }

@@ -1,9 +1,9 @@
-//! Plans on 16 million samples that cost more than the default plan.
+//! Plans on 16 million samples beside the default plan, most of which cost more.
 
 // Two programs include this file, and each uses some of it.
 #![allow(dead_code)]
 
-use squeeze::{Channel, Record, Step};
+use squeeze::{Channel, Record, Step, Version};
 use squeeze_compare::lists::model_step;
 use squeeze_model::list;
 
@@ -127,6 +127,15 @@ pub fn doubled(width: u32, height: u32, horizontal: &[bool], in_place: bool) -> 
         horizontal.iter().map(letter).collect::<String>(),
         place(in_place)
     ))
+}
+
+/// One channel by the default plan of version 2, which stops at 32.
+pub fn house() -> Plan {
+    Plan {
+        name: "4096 x 4096 under version 2".into(),
+        record: Record::under(Version::HOUSE).channel(4096, 4096),
+        samples: 4096 * 4096,
+    }
 }
 
 /// Three channels of one size, by the default plan: chroma steps first.

@@ -1,7 +1,7 @@
 //! The preview that a picture's coarse averages give.
 
 use crate::pnm::Picture;
-use squeeze::{layout, write_pyramid, Channel, Record, Refusal};
+use squeeze::{layout, write_pyramid, Channel, Record, Refusal, Version};
 
 /// A preview, and how many samples of the pyramid it took.
 pub struct Preview {
@@ -11,11 +11,12 @@ pub struct Preview {
     pub arrived: usize,
 }
 
-/// Squeezes a picture with the default plan. The front of its pyramid holds one
-/// average for each of its channels, in order.
-pub fn preview(picture: &Picture) -> Result<Preview, Refusal> {
+/// Squeezes a picture with the version's default plan. The front of its pyramid holds
+/// one average for each of its channels, in order.
+pub fn preview(picture: &Picture, version: Version) -> Result<Preview, Refusal> {
     let channel = Channel::new(picture.width as u32, picture.height as u32);
-    let record = Record::from_parts(&vec![channel; picture.channels], &[])?;
+    let channels = vec![channel; picture.channels];
+    let record = Record::from_parts_under(version, &channels, &[])?;
     let pyramid = write_pyramid(record.bytes(), &picture.planes())?;
     shown(record.bytes(), &pyramid, picture.channels, picture.maxval)
 }
@@ -36,7 +37,7 @@ pub fn shown(
     Ok(Preview { picture, arrived })
 }
 
-/// One picture of averages. The default plan squeezes the second and third
+/// One picture of averages. Version 1's default plan squeezes the second and third
 /// channel once more; they are drawn by their nearest sample.
 fn assemble(averages: &[Channel], samples: &[i32], maxval: u16) -> Picture {
     let size = |channel: &Channel| (channel.width as usize, channel.height as usize);

@@ -1,7 +1,7 @@
 //! Shows what arrives first of an upload: squeezes a portable graymap or pixmap
-//! with the default plan and writes the preview that its coarse averages give.
+//! with a version's default plan and writes the preview that its coarse averages give.
 //!
-//! `cargo run --release --example preview -- INPUT OUTPUT [FACTOR]`
+//! `cargo run --release --example preview -- INPUT OUTPUT [FACTOR [VERSION]]`
 
 mod coarse;
 mod command;

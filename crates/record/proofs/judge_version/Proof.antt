@@ -57,4 +57,4 @@ returns-4 c =
     )
 
 pub judge-version-spec : {M : Type 1} → statement M
-judge-version-spec = tie.close (tie.spec field-inside-requires returns has-head-requires returns-2 shared-slice-read-if3 returns-3 returns-4)
+judge-version-spec = tie.close (tie.spec field-inside-requires has-head-requires shared-slice-read-if3 returns returns-2 returns-3 returns-4)
