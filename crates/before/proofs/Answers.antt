@@ -2,10 +2,10 @@
 use mathlib.Core.Path.{_≡_, refl}
 use mathlib.Core.Bool.{Bool, true, _&&_, _||_}
 use mathlib.Core.List.{List, [], _∷_}
-use Prim.Native.Nat.{ℕ, zero, suc, _≤_}
+use Prim.Native.Nat.{ℕ, _≤_}
 use native.Mathlib.Omega.{arith}
 use lib.Dec.{eqb, leb, ltb}
-use lib.ListN.{length, drop}
+use lib.ListN.{length}
 use borrow.Author.Tests.{leb-true}
 use Rattle.numbers.specs.Numbers.{refusedOutside, refusedField, refusedCount, refusedForm, refusedSamples, refusedRange, refusedKinds, refusedPlace, refusedEmpty, refusedRoom, refusedDefault, refusedLength}
 use Rattle.channel.specs.declared.Channel.{Channel}
@@ -19,15 +19,16 @@ use Rattle.list.specs.Questions as Questions
 use Rattle.list.specs.Questions.{ask, countAllowed, channelsAllowed, totalAllowed, rangeAllowed, kindsAlike, placeAllowed, hasSides, roomLeft, judgeStep}
 use Rattle.list.proofs.Asking.{cond-has}
 use Rattle.plan.specs.declared.Steps.{Steps}
-use Rattle.plan.specs.Version.{standardVersion, houseVersion, isVersion}
+use Rattle.plan.specs.Version.{houseVersion, isVersion}
 use Rattle.plan.specs.Steps as S
 use Rattle.plan.specs.Steps.{steps, allFlags, flagsAllowed}
 use Rattle.plan.specs.Plans as Plans
 use Rattle.plan.specs.Plans.{meant, meantAllowed, judgeForm, judgeSteps, judgePlan}
-use Rattle.record.specs.Bytes.{versionTag, versionLength, versionSize, headLength}
+use Rattle.record.specs.Bytes.{versionTag, versionLength, headLength}
 use Rattle.record.specs.Reading as Reading
-use Rattle.record.specs.Reading.{Form, refused, byteAt, hasHead, hasVersionTag, judgeVersionField, flagsAt, fieldChannel, fieldInside, isChannel, isStep, channelAllowed, tagAllowed, judgeChannelField, judgeStepField, judgeField, finished, answerOf, readFields, formOf}
+use Rattle.record.specs.Reading.{Form, byteAt, hasHead, judgeVersionField, flagsAt, fieldChannel, fieldInside, isChannel, isStep, channelAllowed, tagAllowed, judgeChannelField, judgeStepField, judgeField, formOf}
 use Rattle.record.specs.Records as Records
+use Rattle.record.proofs.Forms.{form-has}
 use Rattle.record.specs.Records.{readAnswer}
 
 abbrev Few : ℕ → Type 0
@@ -89,17 +90,6 @@ field-few bytes count metas steps =
 abbrev FewForm : Form → Type 0
 FewForm form = Few (form .answer)
 
-finished-few : (version : ℕ) (cs : List Channel) (ss : List Step) → Few (finished version cs ss .answer)
-finished-few version cs ss = cond-has FewForm (leb 1 (length cs)) _ (refused refusedCount) none-few (leb-true refusedCount refusedLength refl)
-
-fields-few : (version turns : ℕ) (bytes : List ℕ) (cs : List Channel) (ss : List Step) → Few (readFields version turns bytes cs ss .answer)
-fields-few version zero bytes cs ss = finished-few version cs ss
-fields-few version (suc turns) bytes cs ss =
-    cond-has FewForm (eqb (length bytes) 0) _ _ (finished-few version cs ss)
-    (cond-has FewForm (eqb (answerOf bytes cs ss) 0) _ (refused (answerOf bytes cs ss))
-    (cond-has FewForm (isStep bytes) _ _ (fields-few version turns _ _ _) (fields-few version turns _ _ _))
-    (field-few bytes (length cs) (all isMeta cs) (length ss)))
-
 version-few : (bytes : List ℕ) → Few (judgeVersionField bytes)
 unfolding Reading.judgeVersionField
 version-few bytes =
@@ -108,12 +98,9 @@ version-few bytes =
     (few-number (eqb (byteAt bytes headLength) houseVersion) refusedForm _ refl none-few))
 
 form-answer-few : (bytes : List ℕ) → FewForm (formOf bytes)
-unfolding Reading.fieldsOf Reading.formOf
-form-answer-few bytes =
-    let rest = drop versionSize bytes in
-    cond-has FewForm (hasVersionTag bytes) _ _
-    (cond-has FewForm (eqb (judgeVersionField bytes) 0) _ (refused (judgeVersionField bytes)) (fields-few houseVersion (length rest) rest [] []) (version-few bytes))
-    (fields-few standardVersion (length bytes) bytes [] [])
+form-answer-few =
+    form-has FewForm (λ version cs ss. none-few) (leb-true refusedCount refusedLength refl)
+    (λ bytes cs ss n. field-few bytes (length cs) (all isMeta cs) (length ss)) (λ bytes n. version-few bytes)
 
 pub answer-few : (bytes : List ℕ) → readAnswer bytes ≤ refusedLength
 unfolding Records.readAnswer

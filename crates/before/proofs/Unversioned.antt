@@ -1,11 +1,11 @@
 -- A record whose first field has not tag 4 is read, judged, meant and listed as before there were versions, and version 1 is written as then
 -- (specs/Laws.antt). Assumes nothing.
-use mathlib.Core.Path.{_≡_, refl, sym, ap, _∙_}
-use mathlib.Core.Bool.{Bool, true, false, cond, and-true}
+use mathlib.Core.Path.{_≡_, refl, ap, _∙_}
+use mathlib.Core.Bool.{true, false, and-true}
 use mathlib.Core.List.{List, [], _∷_}
 use Prim.Native.Nat.{ℕ, zero, suc}
 use lib.Dec.{eqb, leb}
-use lib.ListN.{length, drop}
+use lib.ListN.{length}
 use borrow.Author.Tests.{eqb-true}
 use Rattle.channel.specs.declared.Channel.{Channel}
 use Rattle.list.specs.declared.ChannelList.{ChannelList}
@@ -28,7 +28,7 @@ use Rattle.record.specs.Records.{readAnswer, readOf, versionOf, stepsOf}
 use Rattle.listing.specs.Listing as Listing
 use Rattle.listing.specs.Listing.{listing}
 use Rattle.before.specs.Unversioned as Then
-use Rattle.before.specs.Laws.{versionThen, formNow, readNow, ReadUnversionedLaw, WrittenUnversionedLaw}
+use Rattle.before.specs.Laws.{formNow, readNow, ReadUnversionedLaw, WrittenUnversionedLaw}
 
 -- ---- the plan of version 1; of a refused record's version 0 likewise
 pub meant-then : (version : ℕ) → eqb version Versions.houseVersion ≡ false → (ss : List Step) (cs : List Channel) → Plans.meant version ss cs ≡ Then.meant ss cs

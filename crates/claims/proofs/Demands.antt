@@ -26,7 +26,6 @@ use Rattle.cuts.proofs.Witness.{witness}
 use Rattle.plan.specs.declared.Steps.{Steps}
 use Rattle.plan.specs.Steps.{steps}
 use Rattle.plan.specs.Version as Versions
-use Rattle.plan.specs.Version.{standardVersion}
 use Rattle.plan.specs.Plans as Plans
 use Rattle.plan.specs.Plans.{judgePlan, judgeSteps, steppedAll, meant, rewritten}
 use Rattle.plan.proofs.Runs.{none-refused, steps-total}

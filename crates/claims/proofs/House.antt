@@ -1,13 +1,13 @@
 -- The claims of versions (specs/House.antt): by the laws of crates before, plan and record, and the rows by computation. Assumes nothing.
-use mathlib.Core.Path.{_≡_, refl, sym, ap, _∙_}
-use mathlib.Core.Bool.{Bool, true, false, cond, _&&_, _||_, not, and-false, and-eq-true-iff}
-use mathlib.Core.List.{List, [], _∷_, _++_}
+use mathlib.Core.Path.{_≡_, refl, sym, _∙_}
+use mathlib.Core.Bool.{Bool, true, false, cond, _&&_, and-false, and-eq-true-iff}
+use mathlib.Core.List.{List, [], _∷_}
 use Prim.Native.Nat.{ℕ, zero, suc, _≤_}
 use native.Mathlib.Omega.{arith}
 use lib.Dec.{eqb, leb}
 use lib.IntN.{ℤ}
-use lib.ListN.{length, drop, length-drop}
-use borrow.Author.Tests.{eqb-true, eqb-false, ne-eqb, eq-eqb}
+use lib.ListN.{length, drop}
+use borrow.Author.Tests.{eqb-true, eqb-false, ne-eqb}
 use Rattle.numbers.specs.Numbers.{refusedOutside, refusedField, refusedCount, refusedForm}
 use Rattle.channel.specs.declared.Channel.{Channel}
 use Rattle.channel.specs.Channel as Channel
@@ -29,8 +29,8 @@ use Rattle.plan.specs.Default as Default
 use Rattle.plan.specs.Default.{defaultSteps}
 use Rattle.plan.specs.Coarse as Count
 use Rattle.plan.specs.Plans as Plans
-use Rattle.plan.specs.Plans.{meant, judgeForm, judgePlan, judgeMeaning, rewritten, planned, steppedAll}
-use Rattle.plan.specs.DefaultLaws.{FirstLargest, DefaultLaws}
+use Rattle.plan.specs.Plans.{meant, judgeForm, judgePlan, judgeMeaning, rewritten, planned}
+use Rattle.plan.specs.DefaultLaws.{FirstLargest}
 use Rattle.plan.proofs.Turns.{by-test, stops}
 use Rattle.plan.proofs.Judged.{plan-answer}
 use Rattle.plan.proofs.Answers.{meaning-answer}
@@ -38,7 +38,7 @@ use Rattle.plan.proofs.Preview.{default-laws}
 use Rattle.record.specs.Bytes as Bytes
 use Rattle.record.specs.Bytes.{versionTag, versionLength, versionSize, headLength, recordOf}
 use Rattle.record.specs.Reading as Reading
-use Rattle.record.specs.Reading.{Form, byteAt, tagOf, lengthOf, fieldSize, fieldInside, hasHead, isChannel, isStep, judgeField, answerOf, readFields, fieldsOf, hasVersionTag, judgeVersionField, formOf}
+use Rattle.record.specs.Reading.{byteAt, tagOf, lengthOf, fieldSize, fieldInside, hasHead, isChannel, isStep, judgeField, answerOf, readFields, fieldsOf, hasVersionTag, judgeVersionField, formOf}
 use Rattle.record.specs.Records as Records
 use Rattle.record.specs.Records.{readAnswer, versionOf, channelsOf, writtenOf}
 use Rattle.record.proofs.WrittenRead.{fields-version}
@@ -50,9 +50,9 @@ use Rattle.write.specs.Write as Write
 use Rattle.before.specs.Laws as Before
 use Rattle.before.specs.Laws.{noTagIn, noTag}
 use Rattle.before.proofs.Unversioned.{read-unversioned, written-unversioned}
-use Rattle.claims.specs.Table.{channel, record20by9}
+use Rattle.claims.specs.Table.{channel}
 use Rattle.claims.specs.Coarse.{coarseOf, palette}
-use Rattle.claims.specs.House.{WithoutVersion, Plan, afterVersion, Field, counted, Number, across, House}
+use Rattle.claims.specs.House.{Plan, afterVersion, counted, across, House}
 use Rattle.claims.proofs.Coarse.{counts}
 
 -- ---- the plan

@@ -53,7 +53,6 @@ use Rattle.listing.proofs.Room.{listing-room}
 use Rattle.numbered.specs.Numbered as Numbered
 use Rattle.numbered.specs.Numbered.{channelNumbers, stepNumbers, groups, judgeNumbers}
 use Rattle.before.specs.Laws as Before
-use Rattle.before.specs.Laws.{noStrip}
 use Rattle.before.proofs.AsBefore.{read-as-before, written-as-before}
 use Rattle.rect.specs.Rect as Rect
 use Rattle.rect.specs.Rect.{rectOf}

@@ -5,10 +5,9 @@
 -- proofs/House.antt proves them.
 use mathlib.Core.Path.{_≡_}
 use mathlib.Core.Bool.{Bool, true, false, cond, _&&_, not}
-use mathlib.Core.Logic.{_⊎_}
 use mathlib.Core.List.{List, [], _∷_, _++_}
-use Prim.Native.Nat.{ℕ, zero, suc, _≤_}
-use lib.Dec.{eqb, leb}
+use Prim.Native.Nat.{ℕ, _≤_}
+use lib.Dec.{leb}
 use lib.IntN.{ℤ}
 use lib.ListN.{length, drop}
 use Rattle.numbers.specs.Numbers.{refusedOutside, refusedField, refusedCount, refusedForm}
@@ -18,13 +17,13 @@ use Rattle.list.specs.declared.Step.{Step}
 use Rattle.list.specs.Lists.{maxSteps}
 use Rattle.list.specs.Questions.{countAllowed}
 use Rattle.plan.specs.declared.Steps.{Steps}
-use Rattle.plan.specs.Version.{standardVersion, houseVersion, standardSide, houseSide, isVersion}
+use Rattle.plan.specs.Version.{standardVersion, houseVersion, houseSide, isVersion}
 use Rattle.plan.specs.Default.{metaCount, otherCount, firstOther, step, allChannels}
 use Rattle.plan.specs.Coarse as Count
 use Rattle.plan.specs.Plans.{meant, rewritten, planned}
 use Rattle.plan.specs.DefaultLaws.{EachOnAll, FirstLargest}
 use Rattle.record.specs.Bytes.{versionTag, versionLength, versionSize, headLength, recordOf}
-use Rattle.record.specs.Reading.{byteAt, lengthOf, fieldSize, fieldInside, hasHead, judgeField, hasVersionTag, formOf}
+use Rattle.record.specs.Reading.{byteAt, lengthOf, fieldInside, hasHead, judgeField, hasVersionTag, formOf}
 use Rattle.record.specs.Records.{readAnswer, versionOf, channelsOf, writtenOf}
 use Rattle.numbered.specs.Numbered.{channelNumbers, stepNumbers, groups, judgeNumbers}
 use Rattle.rebuild.specs.Rebuild as Rebuild

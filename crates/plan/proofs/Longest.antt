@@ -25,7 +25,7 @@ use Rattle.list.specs.Questions as Q
 use Rattle.list.specs.Questions.{channelOf, judgeList, totalAllowed}
 use Rattle.list.specs.Accepted.{Accepted}
 use Rattle.list.proofs.Acceptance.{list-accepted, accepted-sides}
-use Rattle.list.proofs.Asking.{none-refused, passed}
+use Rattle.list.proofs.Asking.{passed}
 use Rattle.plan.specs.declared.Steps.{Steps}
 use Rattle.plan.specs.Steps as S
 use Rattle.plan.specs.Steps.{steps}

@@ -1,22 +1,19 @@
 -- A list and steps that questions 3 to 11 accept are accepted with their unused entries 0 too. Rests on what crate plan says of the answer 0.
-use mathlib.Core.Path.{_≡_, refl, ap, _∙_}
+use mathlib.Core.Path.{_≡_, refl}
 use mathlib.Core.Bool.{Bool, true, false, and-eq-true-iff}
 use mathlib.Core.List.{List}
 use Prim.Native.Nat.{ℕ, zero, suc, _+_, _<_, _≤_, min}
 use native.Mathlib.Omega.{arith}
-use lib.Dec.{eqb}
 use lib.ListN.{length, getD}
-use borrow.Author.Tests.{eqb-true, eqb-false, le-leb}
+use borrow.Author.Tests.{le-leb}
 use Rattle.list.specs.declared.ChannelList.{ChannelList}
 use Rattle.list.specs.declared.Step.{Step}
-use Rattle.list.specs.declared.Stepped.{Stepped}
 use Rattle.list.specs.Tables.{table, padded, map, all}
 use Rattle.list.specs.Lists as Lists
-use Rattle.list.specs.Lists.{maxChannels, maxSteps, channels}
+use Rattle.list.specs.Lists.{maxSteps, channels}
 use Rattle.list.specs.Questions as Q
-use Rattle.list.specs.Questions.{ask, countAllowed, channelsAllowed, totalAllowed, judgeList}
-use Rattle.list.proofs.Tables.{table-length}
-use Rattle.list.proofs.Acceptance.{count-inside, list-accepted, packed-accepted}
+use Rattle.list.specs.Questions.{countAllowed, channelsAllowed, totalAllowed, judgeList}
+use Rattle.list.proofs.Acceptance.{list-accepted, packed-accepted}
 use Rattle.list.proofs.Asking.{passed}
 use Rattle.list.proofs.Maps.{map-default}
 use Rattle.list.proofs.Filled.{padded-at}
@@ -25,7 +22,7 @@ use Rattle.plan.specs.declared.Steps.{Steps}
 use Rattle.plan.specs.Steps as S
 use Rattle.plan.specs.Steps.{flagsOf, flagsAllowed}
 use Rattle.plan.specs.Plans as P
-use Rattle.plan.specs.Plans.{judgeForm, judgeMeant, judgePlan, rewritten}
+use Rattle.plan.specs.Plans.{judgeForm, judgePlan}
 use Rattle.plan.proofs.Packed.{packed-count, steps-packed}
 use Rattle.plan.proofs.Judged.{judged-version, judged-parts, judged-list, steps-few}
 use Rattle.record.proofs.Flags.{flags-allowed}

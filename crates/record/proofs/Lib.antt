@@ -6,6 +6,7 @@ pub mod Joined
 pub mod Placed
 pub mod Judged
 pub mod Readings
+pub mod Forms
 pub mod Outcomes
 pub mod Words
 pub mod ReadWritten

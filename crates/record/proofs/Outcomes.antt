@@ -1,21 +1,18 @@
 -- What the reader and the writer give (specs/Records.antt), by the answers that the code has found on the way. Assumes nothing.
 use mathlib.Core.Path.{_≡_, refl, sym, ap, _∙_}
 use mathlib.Core.Bool.{Bool, true, false, cond}
-use mathlib.Core.List.{List, [], _++_, append-assoc}
-use Prim.Native.Nat.{ℕ, zero, suc, _+_, _*_, _-_, _<_, _≤_, min}
+use mathlib.Core.List.{List, _++_, append-assoc}
+use Prim.Native.Nat.{ℕ, _+_, _*_, _-_, _<_, _≤_, min}
 use native.Mathlib.Nat.{zero-add}
 use native.Mathlib.Omega.{arith}
-use lib.Dec.{eqb, leb}
+use lib.Dec.{leb}
 use lib.ListN.{length, take, drop, length-append, length-drop}
 use lib.Seq.{take-all}
 use borrow.Author.Tests.{eq-eqb, ne-eqb, le-leb, lt-leb}
-use Rattle.numbers.specs.Numbers.{refusedCount, refusedLength}
-use Rattle.channel.specs.declared.Channel.{Channel}
+use Rattle.numbers.specs.Numbers.{refusedLength}
 use Rattle.list.specs.declared.ChannelList.{ChannelList}
-use Rattle.list.specs.declared.Step.{Step}
 use Rattle.list.specs.declared.Stepped.{Stepped}
 use Rattle.list.specs.Lists.{maxChannels, maxSteps, channels}
-use Rattle.list.proofs.Asking.{cond-has}
 use Rattle.list.proofs.Tables.{table-length}
 use Rattle.list.proofs.Channels.{channels-length}
 use Rattle.plan.specs.declared.Steps.{Steps}
@@ -24,34 +21,20 @@ use Rattle.plan.specs.Steps as S
 use Rattle.plan.specs.Plans.{judgePlan, rewritten}
 use Rattle.record.specs.declared.Record.{Record}
 use Rattle.record.specs.Bytes.{stripSize, stepSize, versionSize, stepField, versionField, channelFields, stepFields, listFields, recordOf, placed}
-use Rattle.record.specs.Reading.{Form, refused, isStep, finished, answerOf, readFields, fieldsOf, hasVersionTag, judgeVersionField, formOf}
+use Rattle.record.specs.Reading.{Form, refused, fieldsOf, hasVersionTag, judgeVersionField, formOf}
 use Rattle.record.specs.Records.{packedForm, readAnswer, readOf, recordFor, writeAnswer, writtenOf, writtenBytes}
 use Rattle.plan.proofs.Judged.{plan-answer, judged-counts}
 use Rattle.record.proofs.Joined.{step-size, joined-length, channels-most}
 use Rattle.record.proofs.Placed.{placed-more}
+use Rattle.record.proofs.Forms.{form-has}
 
 -- ---- the reader
 -- a refusal gives no version, no channel and no step
 abbrev Bare : Form → Type 0
 Bare form = (form .answer ≡ 0 → ⊥) → form ≡ refused (form .answer)
 
-finished-bare : (version : ℕ) (cs : List Channel) (ss : List Step) → Bare (finished version cs ss)
-finished-bare version cs ss = cond-has Bare (leb 1 (length cs)) _ (refused refusedCount) (λ z. absurd (z refl)) (λ z. refl)
-
-fields-bare : (version turns : ℕ) (bytes : List ℕ) (cs : List Channel) (ss : List Step) → Bare (readFields version turns bytes cs ss)
-fields-bare version zero bytes cs ss = finished-bare version cs ss
-fields-bare version (suc turns) bytes cs ss =
-    cond-has Bare (eqb (length bytes) 0) _ _ (finished-bare version cs ss)
-    (cond-has Bare (eqb (answerOf bytes cs ss) 0) _ (refused (answerOf bytes cs ss))
-    (cond-has Bare (isStep bytes) _ _ (fields-bare version turns _ _ _) (fields-bare version turns _ _ _))
-    (λ z. refl))
-
 form-bare : (bytes : List ℕ) → Bare (formOf bytes)
-unfolding fieldsOf formOf
-form-bare bytes =
-    cond-has Bare (hasVersionTag bytes) _ _
-    (cond-has Bare (eqb (judgeVersionField bytes) 0) _ (refused (judgeVersionField bytes)) (fields-bare houseVersion (length (drop versionSize bytes)) (drop versionSize bytes) [] []) (λ z. refl))
-    (fields-bare standardVersion (length bytes) bytes [] [])
+form-bare = form-has Bare (λ version cs ss z. absurd (z refl)) (λ z. refl) (λ bytes cs ss n z. refl) (λ bytes n z. refl)
 
 -- the code's way to it, from what it found of the first field
 module _ (bytes : List ℕ) where

@@ -14,7 +14,6 @@ use Rattle.channel.specs.declared.Channel.{Channel}
 use Rattle.list.specs.declared.Step.{Step}
 use Rattle.list.specs.Lists as Lists
 use Rattle.list.specs.Lists.{channels}
-use Rattle.list.proofs.Asking.{cond-has}
 use Rattle.list.proofs.Packed.{channels-packed}
 use Rattle.plan.specs.Version.{standardVersion, houseVersion}
 use Rattle.plan.specs.Steps as S
@@ -22,7 +21,7 @@ use Rattle.plan.specs.Plans.{judgePlan}
 use Rattle.plan.proofs.Packed.{packed-count, steps-packed}
 use Rattle.record.specs.declared.Record.{Record}
 use Rattle.record.specs.Bytes.{versionSize, channelField, stepField, versionField, channelFields, stepFields, listFields, recordOf}
-use Rattle.record.specs.Reading.{Form, refused, asked, fieldSize, fieldChannel, fieldStep, isStep, finished, answerOf, readFields, fieldsOf, hasVersionTag, judgeVersionField, formOf}
+use Rattle.record.specs.Reading.{Form, asked, fieldSize, fieldChannel, fieldStep, isStep, finished, answerOf, readFields, fieldsOf, hasVersionTag, judgeVersionField, formOf}
 use Rattle.record.specs.Records.{readAnswer, readOf, recordFor, writeAnswer}
 use Rattle.record.specs.Laws.{AreBytes, WrittenRead, WrittenReadLaw, OneRecord}
 use Rattle.record.proofs.Fields.{judged-inside, is-step, is-channel}
@@ -31,6 +30,7 @@ use Rattle.plan.proofs.Runs.{none-refused}
 use Rattle.plan.proofs.Judged.{judged-counts}
 use Rattle.record.proofs.Pushed.{list-count}
 use Rattle.record.proofs.Joined.{joined-snoc}
+use Rattle.record.proofs.Forms.{fields-have}
 use Rattle.record.proofs.Outcomes.{write-fits, written-length, written-bytes}
 
 none {ℓ} : {A : Type ℓ} (xs : List A) → length xs ≤ 0 → xs ≡ []
@@ -109,21 +109,8 @@ fields-back version bytes b = fields-give version (length bytes) bytes [] [] b (
 abbrev Versioned : ℕ → Form → Type 0
 Versioned version form = form .answer ≡ 0 → form .version ≡ version
 
-finished-version : (version : ℕ) (cs : List Channel) (ss : List Step) → Versioned version (finished version cs ss)
-finished-version version cs ss = cond-has (Versioned version) (leb 1 (length cs)) _ (refused refusedCount) (λ z. refl) (λ z. absurd (omega arith))
-
 pub fields-version : (version turns : ℕ) (bytes : List ℕ) (cs : List Channel) (ss : List Step) → Versioned version (readFields version turns bytes cs ss)
-fields-version version zero bytes cs ss = finished-version version cs ss
-fields-version version (suc turns) bytes cs ss =
-    cond-has (Versioned version) (eqb (length bytes) 0) _ _ (finished-version version cs ss)
-    (asked-version (answerOf bytes cs ss) _ (cond-has (Versioned version) (isStep bytes) _ _ (fields-version version turns _ _ _) (fields-version version turns _ _ _)))
-  where
-    asked-version : (answer : ℕ) (next : Form) → Versioned version next → Versioned version (asked (eqb answer 0) answer next)
-    asked-version answer next h = go (eqb answer 0) refl
-      where
-        go : (t : Bool) → eqb answer 0 ≡ t → Versioned version (asked t answer next)
-        go true e = h
-        go false e = λ z. absurd (eqb-false answer 0 e z)
+fields-version version = fields-have (Versioned version) version (λ cs ss z. refl) (λ z. absurd (omega arith)) (λ bytes cs ss n z. absurd (n z))
 
 module _ (bytes : List ℕ) (b : AreBytes bytes) where
   version-read : (version : ℕ) (rest : List ℕ) → AreBytes rest → fieldsOf version rest .answer ≡ 0 → (field : List ℕ) → field ≡ versionField version

@@ -1,5 +1,4 @@
 -- `default_squeeze` meets its contract: the steps that no steps mean. Assumes nothing.
-use mathlib.Core.Path.{_∙_}
 use borrow.Author.Needs.{needs}
 use Rattle.plan.proofs.default_squeeze.Statement.{statement}
 use Rattle.plan.proofs.default_squeeze.Tie as tie

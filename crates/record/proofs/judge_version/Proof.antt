@@ -1,5 +1,4 @@
 -- `judge_version` meets its contract: each return has the answers to the questions before it. Assumes nothing.
-use mathlib.Core.Path.{sym, _∙_}
 use native.Mathlib.Omega.{arith}
 use borrow.Author.Needs.{needs}
 use borrow.Author.Tests.{eq-eqb, ne-eqb}

@@ -1,5 +1,4 @@
 -- `of` meets its contract, by the two cases of the test. Assumes nothing.
-use borrow.Author.Needs.{needs}
 use borrow.Author.Tests.{eq-eqb, ne-eqb}
 use Rattle.plan.specs.Version.{houseVersion, ruleOf}
 use Rattle.plan.proofs.DefaultRule.of.Statement.{statement}
