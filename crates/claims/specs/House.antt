@@ -8,29 +8,51 @@ use mathlib.Core.Bool.{Bool, true, false, cond, _&&_, not}
 use mathlib.Core.List.{List, [], _∷_, _++_}
 use Prim.Native.Nat.{ℕ, _≤_}
 use lib.Dec.{leb}
-use lib.IntN.{ℤ}
-use lib.ListN.{length, drop}
+use lib.IntN.{ℤ, pos}
+use lib.ListN.{length, drop, replicate}
 use Rattle.numbers.specs.Numbers.{refusedOutside, refusedField, refusedCount, refusedForm}
 use Rattle.channel.specs.declared.Channel.{Channel}
 use Rattle.list.specs.declared.ChannelList.{ChannelList}
 use Rattle.list.specs.declared.Step.{Step}
-use Rattle.list.specs.Lists.{maxSteps}
+use Rattle.list.specs.Lists.{maxSteps, packed}
 use Rattle.list.specs.Questions.{countAllowed}
 use Rattle.plan.specs.declared.Steps.{Steps}
 use Rattle.plan.specs.Version.{standardVersion, houseVersion, houseSide, isVersion}
+use Rattle.plan.specs.Steps as S
 use Rattle.plan.specs.Default.{metaCount, otherCount, firstOther, step, allChannels}
 use Rattle.plan.specs.Coarse as Count
 use Rattle.plan.specs.Plans.{meant, rewritten, planned}
 use Rattle.plan.specs.DefaultLaws.{EachOnAll, FirstLargest}
 use Rattle.record.specs.Bytes.{versionTag, versionLength, versionSize, headLength, recordOf}
 use Rattle.record.specs.Reading.{byteAt, lengthOf, fieldInside, hasHead, judgeField, hasVersionTag, formOf}
-use Rattle.record.specs.Records.{readAnswer, versionOf, channelsOf, writtenOf}
+use Rattle.record.specs.Records.{readAnswer, versionOf, channelsOf, stepsOf, writtenOf}
 use Rattle.numbered.specs.Numbered.{channelNumbers, stepNumbers, groups, judgeNumbers}
 use Rattle.rebuild.specs.Rebuild as Rebuild
 use Rattle.write.specs.Write as Write
+use Rattle.squeeze.specs.Entry.{answer}
 use Rattle.before.specs.Laws.{noTag, ReadUnversionedLaw, WrittenUnversionedLaw}
 use Rattle.claims.specs.Table.{channel, record20by9}
 use Rattle.claims.specs.Coarse.{coarseOf, palette, Counts}
+
+-- ---- three channels alike, and steps on one channel
+abbrev pub three : ℕ → List Channel
+three side = channel side side ∷ channel side side ∷ channel side side ∷ []
+
+abbrev pub across : Step
+across = step true true 0 1
+
+abbrev pub down : Step
+down = step false true 0 1
+
+-- the version's field, and a picture 33 by 1 under version 2
+abbrev pub versionBytes : List ℕ
+versionBytes = 4 ∷ 1 ∷ 0 ∷ 2 ∷ []
+
+abbrev pub record33by1 : List ℕ
+record33by1 = versionBytes ++ (1 ∷ 6 ∷ 0 ∷ 33 ∷ 0 ∷ 1 ∷ 0 ∷ 0 ∷ 0 ∷ [])
+
+abbrev pub line33 : List ℤ
+line33 = replicate 33 (pos 7)
 
 -- ---- "A record without tag 4 keeps its bytes and its meaning"
 pub record WithoutVersion : Type 0 where
@@ -53,6 +75,10 @@ pub record Plan : Type 0 where
   -- "New terminals show 32 by 32 previews": under either version, where the first channel that is not meta is the largest, a default plan leaves an
   -- average of every channel among the coarse ones
   pub preview : (bytes : List ℕ) → readAnswer bytes ≡ 0 → formOf bytes .steps ≡ [] → FirstLargest (channelsOf bytes) → length (channelsOf bytes) ≤ coarseOf bytes
+  -- three channels alike are such
+  pub preview-witness : FirstLargest (three 33) × Counts houseVersion (three 33) [] 6
+  -- a picture under version 2 for which all that demand 3 asks holds, and which has a step
+  pub run-witness : (answer record33by1 line33 line33 line33 ≡ 0) × (stepsOf record33by1 ≡ across ∷ [])
 
 -- ---- "in tag 4, length 1, value 2, once and as its first field"
 -- what stands after the version's field, or the whole where there is none
@@ -89,25 +115,14 @@ pub record Number : Type 0 where
       → Rebuild.answerOf version l s pyramid picture work ≡ refusedForm
   pub write : (version : ℕ) (l : ChannelList) (s : Steps) (picture pyramid work : List ℤ) → isVersion version ≡ false → counted l s ≡ true
       → Write.answer version l s picture pyramid work ≡ refusedForm
+  pub witness : (isVersion 3 ≡ false) × (counted (packed (channel 20 9 ∷ [])) (S.packed []) ≡ true)
   -- 3 comes first
   pub count-first : (version : ℕ) (l : ChannelList) (s : Steps) → counted l s ≡ false → rewritten version l s .answer ≡ refusedCount
 
 -- ---- rows
--- version 2's default plan of one channel, and of three alike
+-- version 2's default plan of one channel
 abbrev pub housePlan : ℕ → ℕ → List Step
 housePlan width height = meant houseVersion [] (channel width height ∷ [])
-
-abbrev pub across : Step
-across = step true true 0 1
-
-abbrev pub down : Step
-down = step false true 0 1
-
-abbrev pub three : ℕ → List Channel
-three side = channel side side ∷ channel side side ∷ channel side side ∷ []
-
-abbrev pub versionBytes : List ℕ
-versionBytes = 4 ∷ 1 ∷ 0 ∷ 2 ∷ []
 
 pub record Rows : Type 0 where
   pub at-31 : housePlan 31 31 ≡ []
