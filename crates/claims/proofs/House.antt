@@ -29,7 +29,7 @@ use Rattle.plan.specs.Default as Default
 use Rattle.plan.specs.Default.{defaultSteps}
 use Rattle.plan.specs.Coarse as Count
 use Rattle.plan.specs.Plans as Plans
-use Rattle.plan.specs.Plans.{meant, judgeForm, judgePlan, judgeMeaning, rewritten, planned, steppedAll}
+use Rattle.plan.specs.Plans.{meant, judgeForm, judgePlan, judgeMeaning, rewritten, planned}
 use Rattle.plan.specs.DefaultLaws.{FirstLargest}
 use Rattle.plan.proofs.Turns.{by-test, stops}
 use Rattle.plan.proofs.Judged.{plan-answer}
@@ -40,7 +40,7 @@ use Rattle.record.specs.Bytes.{versionTag, versionLength, versionSize, headLeng
 use Rattle.record.specs.Reading as Reading
 use Rattle.record.specs.Reading.{byteAt, tagOf, lengthOf, fieldSize, fieldInside, hasHead, isChannel, isStep, judgeField, answerOf, readFields, fieldsOf, hasVersionTag, judgeVersionField, formOf}
 use Rattle.record.specs.Records as Records
-use Rattle.record.specs.Records.{readAnswer, versionOf, channelsOf, stepsOf, writtenOf}
+use Rattle.record.specs.Records.{readAnswer, versionOf, channelsOf, writtenOf}
 use Rattle.record.proofs.WrittenRead.{fields-version}
 use Rattle.numbered.specs.Numbered as Numbered
 use Rattle.numbered.specs.Numbered.{channelNumbers, stepNumbers, groups, flagsOf, judgeNumbers}
@@ -54,7 +54,7 @@ use Rattle.before.specs.Laws.{noTagIn, noTag}
 use Rattle.before.proofs.Unversioned.{read-unversioned, written-unversioned}
 use Rattle.claims.specs.Table.{channel}
 use Rattle.claims.specs.Coarse.{coarseOf, palette}
-use Rattle.claims.specs.House.{three, across, record33by1, line33, Plan, afterVersion, counted, House}
+use Rattle.claims.specs.House.{three, across, Plan, afterVersion, counted, House}
 use Rattle.claims.proofs.Coarse.{counts}
 
 -- ---- the plan
@@ -69,24 +69,6 @@ three-largest (suc zero) l u = (omega arith, omega arith)
 three-largest (suc (suc zero)) l u = (omega arith, omega arith)
 three-largest (suc (suc (suc k))) l u = absurd (omega arith)
 
--- the two cases, by computation
-record Witnesses : Type 0 where
-  three-judged : judgePlan houseVersion (Lists.packed (three 33)) (Steps.packed []) ≡ 0
-  three-count : Count.coarseCount (ruleOf houseVersion .stop) (steppedAll (meant houseVersion [] (three 33)) (three 33)) ≡ 6
-  run : (answer record33by1 line33 line33 line33 ≡ 0) × (stepsOf record33by1 ≡ across ∷ [])
-
-witnesses : Witnesses
-unfolding
-    Channel.isMeta Channel.shiftsAllowed Channel.sidesFit Channel.isAllowed Channel.samples
-    Lists.channels Lists.packed Lists.raised Lists.average Lists.residual Lists.stepped
-    Questions.countAllowed Questions.channelsAllowed Questions.totalAllowed Questions.rangeAllowed Questions.kindsAlike Questions.placeAllowed Questions.hasSides Questions.shiftsKept Questions.roomLeft Questions.judgeStep
-    Steps.flagsOf Steps.flagsAllowed Steps.steps Steps.allFlags Steps.packed
-    Versions.isVersion Versions.ruleOf Default.metaCount Default.chroma Default.rounds Default.allChannels Default.defaultSteps Count.isCoarse Count.coarseCount
-    Plans.hasOther Plans.meant Plans.meantAllowed Plans.judgeForm Plans.judgeMeant Plans.judgePlan
-    Reading.fieldChannel Reading.fieldInside Reading.hasHead Reading.isChannel Reading.isStep Reading.channelAllowed Reading.tagAllowed Reading.judgeChannelField Reading.judgeStepField Reading.judgeField Reading.fieldsOf Reading.judgeVersionField Reading.formOf
-    Records.readAnswer Entry.answer
-witnesses = record { three-judged = refl; three-count = refl; run = (refl, refl) }
-
 plan : Plan
 unfolding Versions.ruleOf Plans.meant
 plan =
@@ -96,8 +78,6 @@ plan =
       small-none = λ cs. default-laws houseRule cs .small-none refl;
       own-steps = λ version s ss cs. refl;
       preview = preview;
-      preview-witness = (three-largest, counts houseVersion (three 33) [] (witnesses .three-judged) 6 (witnesses .three-count));
-      run-witness = witnesses .run;
     }
 
 -- ---- the field
@@ -234,7 +214,7 @@ unfolding
     Plans.hasOther Plans.meant Plans.meantAllowed Plans.judgeForm Plans.judgeMeant Plans.judgePlan
     Bytes.isStrip Bytes.shortField Bytes.stripField Bytes.channelField Bytes.stepField Bytes.versionField Bytes.listFields Bytes.recordOf
     Reading.fieldChannel Reading.fieldInside Reading.hasHead Reading.isChannel Reading.isStep Reading.channelAllowed Reading.tagAllowed Reading.judgeChannelField Reading.judgeStepField Reading.judgeField Reading.fieldsOf Reading.judgeVersionField Reading.formOf
-    Records.readAnswer
+    Records.readAnswer Entry.answer
 house =
     record {
       without-version = record { read = read-unversioned; written = written-unversioned; witness = (refl, refl) };
@@ -274,6 +254,8 @@ house =
             three-standard = refl;
             three-small = refl;
             three-house = refl;
+            preview-witness = (three-largest, counts houseVersion (three 33) [] refl 6 refl);
+            run-witness = (refl, refl);
             palette-first = refl;
             own-house = counts houseVersion (channel 20 20 ∷ []) (across ∷ []) refl 2 refl;
             own-standard = counts standardVersion (channel 20 20 ∷ []) (across ∷ []) refl 0 refl;

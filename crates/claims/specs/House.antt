@@ -75,10 +75,6 @@ pub record Plan : Type 0 where
   -- "New terminals show 32 by 32 previews": under either version, where the first channel that is not meta is the largest, a default plan leaves an
   -- average of every channel among the coarse ones
   pub preview : (bytes : List ℕ) → readAnswer bytes ≡ 0 → formOf bytes .steps ≡ [] → FirstLargest (channelsOf bytes) → length (channelsOf bytes) ≤ coarseOf bytes
-  -- three channels alike are such
-  pub preview-witness : FirstLargest (three 33) × Counts houseVersion (three 33) [] 6
-  -- a picture under version 2 for which all that demand 3 asks holds, and which has a step
-  pub run-witness : (answer record33by1 line33 line33 line33 ≡ 0) × (stepsOf record33by1 ≡ across ∷ [])
 
 -- ---- "in tag 4, length 1, value 2, once and as its first field"
 -- what stands after the version's field, or the whole where there is none
@@ -138,6 +134,9 @@ pub record Rows : Type 0 where
   pub three-standard : meant standardVersion [] (three 9) ≡ step true false 1 2 ∷ step false false 1 2 ∷ step false true 0 3 ∷ step true true 0 3 ∷ []
   pub three-small : meant houseVersion [] (three 9) ≡ []
   pub three-house : meant houseVersion [] (three 33) ≡ step false true 0 3 ∷ step true true 0 3 ∷ []
+  -- a list for which all that the preview asks holds, and a picture under version 2 with a step for which all that demand 3 asks holds
+  pub preview-witness : FirstLargest (three 33) × Counts houseVersion (three 33) [] 6
+  pub run-witness : (answer record33by1 line33 line33 line33 ≡ 0) × (stepsOf record33by1 ≡ across ∷ [])
   -- a meta channel first
   pub palette-first : meant houseVersion [] (palette 300 1 ∷ channel 33 9 ∷ []) ≡ step true true 1 1 ∷ []
   -- the coarse count, with a step of its own and without, under both
