@@ -34,7 +34,7 @@ use Rattle.claims.specs.Coarse.{sideOf, coarseOf, linesBefore, palette, 
 
 -- ---- a record that is accepted
 module _ (bytes : List ℕ) (z : readAnswer bytes ≡ 0) where
-  last-line : listing bytes ≡ linesBefore (stepsOf bytes) (reachedOf bytes) ++ numbered coarseWord (coarseOf bytes)
+  pub last-line : listing bytes ≡ linesBefore (stepsOf bytes) (reachedOf bytes) ++ numbered coarseWord (coarseOf bytes)
   unfolding Listing.listing Listing.planText
   last-line =
       let ss = stepsOf bytes in

@@ -1,7 +1,7 @@
 -- The claims of versions (specs/House.antt): by the laws of crates before, plan and record, and the rows by computation. Assumes nothing.
-use mathlib.Core.Path.{_≡_, refl, sym, _∙_}
+use mathlib.Core.Path.{_≡_, refl, sym, ap, _∙_}
 use mathlib.Core.Bool.{Bool, true, false, cond, _&&_, and-false, and-eq-true-iff}
-use mathlib.Core.List.{List, [], _∷_}
+use mathlib.Core.List.{List, [], _∷_, _++_}
 use Prim.Native.Nat.{ℕ, zero, suc, _≤_}
 use native.Mathlib.Omega.{arith}
 use lib.Dec.{eqb, leb}
@@ -29,7 +29,7 @@ use Rattle.plan.specs.Default as Default
 use Rattle.plan.specs.Default.{defaultSteps}
 use Rattle.plan.specs.Coarse as Count
 use Rattle.plan.specs.Plans as Plans
-use Rattle.plan.specs.Plans.{meant, judgeForm, judgePlan, judgeMeaning, rewritten, planned}
+use Rattle.plan.specs.Plans.{meant, judgeForm, judgePlan, judgeMeaning, rewritten, planned, steppedAll}
 use Rattle.plan.specs.DefaultLaws.{FirstLargest}
 use Rattle.plan.proofs.Turns.{by-test, stops}
 use Rattle.plan.proofs.Judged.{plan-answer}
@@ -38,13 +38,16 @@ use Rattle.plan.proofs.Preview.{default-laws}
 use Rattle.record.specs.Bytes as Bytes
 use Rattle.record.specs.Bytes.{versionTag, versionLength, versionSize, headLength, recordOf}
 use Rattle.record.specs.Reading as Reading
-use Rattle.record.specs.Reading.{byteAt, tagOf, lengthOf, fieldSize, fieldInside, hasHead, isChannel, isStep, judgeField, answerOf, readFields, fieldsOf, hasVersionTag, judgeVersionField, formOf}
+use Rattle.record.specs.Reading.{Form, byteAt, tagOf, lengthOf, fieldSize, fieldInside, hasHead, isChannel, isStep, judgeField, answerOf, readFields, fieldsOf, hasVersionTag, judgeVersionField, formOf}
 use Rattle.record.specs.Records as Records
-use Rattle.record.specs.Records.{readAnswer, versionOf, channelsOf, writtenOf}
+use Rattle.record.specs.Records.{readAnswer, versionOf, channelsOf, stepsOf, writtenOf}
 use Rattle.record.proofs.WrittenRead.{fields-version}
+use Rattle.record.proofs.RecordOf.{record-form, record-accepted, record-version, record-reached}
 use Rattle.numbered.specs.Numbered as Numbered
 use Rattle.numbered.specs.Numbered.{channelNumbers, stepNumbers, groups, flagsOf, judgeNumbers}
 use Rattle.numbered.proofs.Outcomes.{written-answer}
+use Rattle.listing.specs.Text.{coarseWord, numbered}
+use Rattle.listing.specs.Listing.{listing}
 use Rattle.rebuild.specs.Rebuild as Rebuild
 use Rattle.write.specs.Write as Write
 use Rattle.squeeze.specs.Entry as Entry
@@ -53,14 +56,25 @@ use Rattle.before.specs.Laws as Before
 use Rattle.before.specs.Laws.{noTagIn, noTag}
 use Rattle.before.proofs.Unversioned.{read-unversioned, written-unversioned}
 use Rattle.claims.specs.Table.{channel}
-use Rattle.claims.specs.Coarse.{coarseOf, palette}
+use Rattle.claims.specs.Coarse.{linesBefore, coarseOf, palette}
 use Rattle.claims.specs.House.{three, across, Plan, afterVersion, counted, House}
-use Rattle.claims.proofs.Coarse.{counts}
+use Rattle.claims.proofs.Coarse.{last-line, counts}
 
 -- ---- the plan
 preview : (bytes : List ℕ) → readAnswer bytes ≡ 0 → formOf bytes .steps ≡ [] → FirstLargest (channelsOf bytes) → length (channelsOf bytes) ≤ coarseOf bytes
 unfolding Plans.meant
 preview bytes z none largest = rw none (default-laws (ruleOf (versionOf bytes)) (channelsOf bytes) .preview-coarse (stops (versionOf bytes)) largest)
+
+own-listing : (version : ℕ) (s : Step) (ss : List Step) (cs : List Channel) → judgePlan version (Lists.packed cs) (Steps.packed (s ∷ ss)) ≡ 0
+    → listing (recordOf version cs (s ∷ ss))
+    ≡ linesBefore (s ∷ ss) (steppedAll (s ∷ ss) cs) ++ numbered coarseWord (Count.coarseCount (ruleOf version .stop) (steppedAll (s ∷ ss) cs))
+unfolding Plans.meant
+own-listing version s ss cs ok =
+    let reached = record-reached version cs (s ∷ ss) ok in
+    let known = record-version version cs (s ∷ ss) ok in
+    let own : stepsOf (recordOf version cs (s ∷ ss)) ≡ s ∷ ss = ap (λ (f : Form). meant (f .version) (f .steps) (f .channels)) (record-form version cs (s ∷ ss) ok) in
+    last-line (recordOf version cs (s ∷ ss)) (record-accepted version cs (s ∷ ss) ok)
+    ∙ (λ i. linesBefore (own i) (reached i) ++ numbered coarseWord (Count.coarseCount (ruleOf (known i) .stop) (reached i)))
 
 three-largest : FirstLargest (three 33)
 unfolding Channel.isMeta Default.metaCount
@@ -77,6 +91,7 @@ plan =
       not-subsampled = λ cs. default-laws houseRule cs .each-on-all refl;
       small-none = λ cs. default-laws houseRule cs .small-none refl;
       own-steps = λ version s ss cs. refl;
+      own-listing = own-listing;
       preview = preview;
     }
 

@@ -17,22 +17,24 @@ use Rattle.list.specs.declared.Step.{Step}
 use Rattle.list.specs.Lists.{maxSteps, packed}
 use Rattle.list.specs.Questions.{countAllowed}
 use Rattle.plan.specs.declared.Steps.{Steps}
-use Rattle.plan.specs.Version.{standardVersion, houseVersion, houseSide, isVersion}
+use Rattle.plan.specs.Version.{standardVersion, houseVersion, houseSide, isVersion, ruleOf}
 use Rattle.plan.specs.Steps as S
 use Rattle.plan.specs.Default.{metaCount, otherCount, firstOther, step, allChannels}
 use Rattle.plan.specs.Coarse as Count
-use Rattle.plan.specs.Plans.{meant, rewritten, planned}
+use Rattle.plan.specs.Plans.{steppedAll, meant, judgePlan, rewritten, planned}
 use Rattle.plan.specs.DefaultLaws.{EachOnAll, FirstLargest}
 use Rattle.record.specs.Bytes.{versionTag, versionLength, versionSize, headLength, recordOf}
 use Rattle.record.specs.Reading.{byteAt, lengthOf, fieldInside, hasHead, judgeField, hasVersionTag, formOf}
 use Rattle.record.specs.Records.{readAnswer, versionOf, channelsOf, stepsOf, writtenOf}
 use Rattle.numbered.specs.Numbered.{channelNumbers, stepNumbers, groups, judgeNumbers}
+use Rattle.listing.specs.Text.{coarseWord, numbered}
+use Rattle.listing.specs.Listing.{listing}
 use Rattle.rebuild.specs.Rebuild as Rebuild
 use Rattle.write.specs.Write as Write
 use Rattle.squeeze.specs.Entry.{answer}
 use Rattle.before.specs.Laws.{noTag, ReadUnversionedLaw, WrittenUnversionedLaw}
 use Rattle.claims.specs.Table.{channel, record20by9}
-use Rattle.claims.specs.Coarse.{coarseOf, palette, Counts}
+use Rattle.claims.specs.Coarse.{coarseOf, linesBefore, palette, Counts}
 
 -- ---- three channels alike, and steps on one channel
 abbrev pub three : ℕ → List Channel
@@ -72,6 +74,10 @@ pub record Plan : Type 0 where
   pub small-none : (cs : List Channel) → firstOther cs .width ≤ houseSide → firstOther cs .height ≤ houseSide → meant houseVersion [] cs ≡ []
   -- steps of its own are the same under every version
   pub own-steps : (version : ℕ) (s : Step) (ss : List Step) (cs : List Channel) → meant version (s ∷ ss) cs ≡ s ∷ ss
+  -- and "only the coarse line differs": no line before it has the version
+  pub own-listing : (version : ℕ) (s : Step) (ss : List Step) (cs : List Channel) → judgePlan version (packed cs) (S.packed (s ∷ ss)) ≡ 0
+      → listing (recordOf version cs (s ∷ ss))
+      ≡ linesBefore (s ∷ ss) (steppedAll (s ∷ ss) cs) ++ numbered coarseWord (Count.coarseCount (ruleOf version .stop) (steppedAll (s ∷ ss) cs))
   -- "New terminals show 32 by 32 previews": under either version, where the first channel that is not meta is the largest, a default plan leaves an
   -- average of every channel among the coarse ones
   pub preview : (bytes : List ℕ) → readAnswer bytes ≡ 0 → formOf bytes .steps ≡ [] → FirstLargest (channelsOf bytes) → length (channelsOf bytes) ≤ coarseOf bytes

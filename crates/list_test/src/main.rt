@@ -1,6 +1,6 @@
 // Replays lists, steps and plans (tests/lists.py made `stdin` of the published
 // Rust's answers and of cases by document 01's rules, and says how it is laid
-// out). Compares answers and whole arrays and prints how many cases of each
+// out). Compares answers and whole arrays, and prints how many cases of each
 // kind there were and how many came out right.
 ghost use Prim.Native.Nat.{_+_, _<_, _≤_};
 use libc::STDIN_FILENO;
