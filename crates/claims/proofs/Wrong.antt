@@ -1,5 +1,6 @@
 -- The wrong programs (specs/Wrong.antt) differ from the contracts on a picture 17 by 1 under the default plan, which takes two steps; the wrong
--- counts there, on document 01's picture 20 by 9, on a list with a palette, or on a picture of version 2 with a step of its own. What either side gives is computed. Assumes nothing.
+-- counts there, on document 01's picture 20 by 9, on a list with a palette, or on a picture of version 2 with a step of its own. What either
+-- side gives is computed. Assumes nothing.
 use mathlib.Core.Path.{_≡_, refl, ap, sym, _∙_}
 use mathlib.Core.Bool.{true, false, cond}
 use mathlib.Core.Logic.{_⊎_, inl, inr}

@@ -80,8 +80,8 @@ pub record TotalStays : Type 0 where
   pub laid-out : (ss : List Step) (cs : List Channel) → total (layout ss cs) ≡ total cs
   pub rewrites : (version : ℕ) (l : ChannelList) (s : Steps) → rewritten version l s .answer ≡ 0 → total (channels (rewritten version l s .list)) ≡ total (channels l)
 
--- "Reading and writing undo each other", the version among what is read and written, and a version, a list and its steps have one record; a record from numbers is the writer's, and reads as the numbers
--- say
+-- "Reading and writing undo each other", the version among what is read and written, and a version, a list and its steps have one record; a record
+-- from numbers is the writer's, and reads as the numbers say
 pub record RecordUndone : Type 0 where
   pub read-written : ReadWrittenLaw
   pub written-read : WrittenReadLaw

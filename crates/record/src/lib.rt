@@ -1,6 +1,7 @@
-// The record (document 01, "Record"): a plan version, a channel list and its
-// steps as bytes, read field by field and written. Total: every byte string is judged, by
-// questions 1 to 11 in their order; the writer puts 3 to 11 and 14.
+// The record (document 01, "Record"; document 02, A.8 and A.11): a plan version, a
+// channel list and its steps as bytes, read field by field and written. Total:
+// every byte string is judged, by questions 1 to 11 in their order; the writer
+// puts 3 to 11 and 14.
 ghost use mathlib.Core.Path.{_≡_};
 ghost use Prim.Native.Nat.{_+_, _≤_, _<_};
 ghost use lib.ListN.{length};
