@@ -127,7 +127,7 @@ allowed-same cs h = rw (all-allowed-same cs h)
 
 module _ (cs : List Channel) (ss : List Step) (short : all isShort cs ≡ true) where
   few : (countAllowed (Lists.packed cs .count) && leb (S.packed ss .count) maxSteps) ≡ true → length cs ≤ maxChannels
-  unfolding Questions.countAllowed Lists.packed
+  unfolding Questions.countAllowed Lists.holding
   few t =
       let a = and-eq-true-iff (countAllowed (length cs)) (leb (S.packed ss .count) maxSteps) .0 t in
       leb-true (length cs) maxChannels (and-eq-true-iff (leb 1 (length cs)) (leb (length cs) maxChannels) .0 (a .0) .1)

@@ -63,7 +63,7 @@ module _ (version : ℕ) (cs : List Channel) (ss : List Step) (ok : judgePlan ve
 pub coarse : Coarse
 unfolding
     Channel.isMeta Channel.shiftsAllowed Channel.samples Channel.sidesFit Channel.isAllowed
-    Lists.channels Lists.packed Lists.raised Lists.average Lists.residual Lists.stepped
+    Lists.channels Lists.holding Lists.raised Lists.average Lists.residual Lists.stepped
     Questions.countAllowed Questions.channelsAllowed Questions.totalAllowed Questions.rangeAllowed Questions.kindsAlike Questions.placeAllowed Questions.hasSides Questions.shiftsKept Questions.roomLeft Questions.judgeStep
     Steps.flagsOf Steps.flagsAllowed Steps.steps Steps.allFlags Steps.packed
     Versions.isVersion Versions.ruleOf Default.metaCount Default.chroma Default.rounds Default.allChannels Default.defaultSteps Count.isCoarse Count.coarseCount

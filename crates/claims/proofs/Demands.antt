@@ -42,6 +42,7 @@ use Rattle.record.proofs.WrittenRead.{written-read, one-record}
 use Rattle.listing.specs.Listing as L
 use Rattle.listing.specs.Text.{refusedWord, numbered}
 use Rattle.listing.specs.Listing.{listing, listAnswer, textAfter, sizeAfter, judgedBytes, printed}
+use Rattle.layout.specs.Layout as Layout
 use Rattle.numbered.proofs.AsWritten as Numbered
 use Rattle.numbered.proofs.ReadBack as NumbersBack
 use Rattle.runs.specs.Runs.{isTaken, layout}
@@ -61,7 +62,7 @@ layout-total (s ∷ ss) cs = by (isTaken s cs) (layout-total ss)
     by true rest = rest (stepped s cs) ∙ stepped-total s cs
     by false rest = rest cs
 
-layout-reached : (ss : List Step) (cs : List Channel) → judgeSteps ss cs ≡ 0 → layout ss cs ≡ steppedAll ss cs
+pub layout-reached : (ss : List Step) (cs : List Channel) → judgeSteps ss cs ≡ 0 → layout ss cs ≡ steppedAll ss cs
 layout-reached [] cs h = refl
 layout-reached (s ∷ ss) cs h =
     let a = none-refused (judgeStep s cs) (judgeSteps ss (stepped s cs)) h in
@@ -106,6 +107,10 @@ listing-keeps : (bytes text size : List ℕ) → (listAnswer bytes text size ≡
 unfolding L.textAfter L.sizeAfter
 listing-keeps bytes text size h = let n = ne-eqb (listAnswer bytes text size) 0 h in (rw n, rw n)
 
+layout-keeps : (bytes : List ℕ) (out : Layout.Rows) → (Layout.answer bytes out ≡ 0 → ⊥) → Layout.after bytes out ≡ out
+unfolding Layout.after
+layout-keeps bytes out h = rw (ne-eqb (Layout.answer bytes out) 0 h)
+
 writer-keeps : (version : ℕ) (l : ChannelList) (s : Steps) (out : List ℕ) → (writtenOf version l s out .answer ≡ 0 → ⊥) → writtenBytes version l s out ≡ out
 unfolding Records.writtenOf Records.writtenBytes
 writer-keeps version l s out = by (eqb (writeAnswer version l s out) 0) refl
@@ -121,6 +126,7 @@ refusal-keeps =
       tile = refused-after;
       rectangle = rectangle-keeps;
       listing = listing-keeps;
+      layout = layout-keeps;
       from-numbers = Numbered.refusal-keeps;
       record-writer = writer-keeps;
     }

@@ -222,7 +222,7 @@ count-first version l s n = plan-answer version l s (rewritten version l s) refl
 pub house : House
 unfolding
     Channel.isMeta Channel.shiftsAllowed Channel.sidesFit Channel.isAllowed Channel.samples
-    Lists.channels Lists.packed Lists.raised Lists.average Lists.residual Lists.stepped
+    Lists.channels Lists.holding Lists.raised Lists.average Lists.residual Lists.stepped
     Questions.countAllowed Questions.channelsAllowed Questions.totalAllowed Questions.rangeAllowed Questions.kindsAlike Questions.placeAllowed Questions.hasSides Questions.shiftsKept Questions.roomLeft Questions.judgeStep
     Steps.flagsOf Steps.flagsAllowed Steps.steps Steps.allFlags Steps.packed
     Versions.isVersion Versions.ruleOf Default.metaCount Default.chroma Default.rounds Default.allChannels Default.defaultSteps Count.isCoarse Count.coarseCount

@@ -158,7 +158,7 @@ tile-refused c ok a = thirteen c ok (go a)
 pub strips : Strips
 unfolding
     Channel.isMeta Channel.shiftsAllowed Channel.sidesFit Channel.isAllowed Channel.samples
-    Lists.channels Lists.packed Lists.raised Lists.average Lists.residual Lists.stepped
+    Lists.channels Lists.holding Lists.raised Lists.average Lists.residual Lists.stepped
     Questions.countAllowed Questions.channelsAllowed Questions.totalAllowed Questions.rangeAllowed Questions.kindsAlike Questions.placeAllowed Questions.hasSides Questions.shiftsKept Questions.roomLeft Questions.judgeList Questions.judgeStep
     Tile.areaAllowed Tile.areasAllowed Tile.sidesSmall Tile.sidesFit Tile.lineFits Tile.sizesFit Tile.slicesFit Tile.answer
     Steps.flagsOf Steps.flagsAllowed Steps.steps Steps.allFlags Steps.packed

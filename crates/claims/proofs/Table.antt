@@ -28,7 +28,7 @@ unfolding
     Line.nextAverage Line.before Line.sample Uncut.lineOf Uncut.outputAt Uncut.uncut
     Channel.isMeta Channel.shiftsAllowed Channel.sidesFit Channel.isAllowed Channel.samples
     Rect.groupAllowed Rect.tile Rect.tileUnlessMeta Rect.byKinds Rect.rectOf
-    Lists.channels Lists.packed Lists.raised Lists.average Lists.residual Lists.stepped
+    Lists.channels Lists.holding Lists.raised Lists.average Lists.residual Lists.stepped
     Questions.countAllowed Questions.channelsAllowed Questions.totalAllowed Questions.rangeAllowed Questions.kindsAlike Questions.placeAllowed Questions.hasSides Questions.shiftsKept Questions.roomLeft Questions.judgeStep
     Steps.flagsOf Steps.flagsAllowed Steps.steps Steps.allFlags Steps.packed
     Versions.isVersion Versions.ruleOf Default.metaCount Default.chroma Default.rounds Default.allChannels Default.defaultSteps Coarse.isCoarse Coarse.coarseCount

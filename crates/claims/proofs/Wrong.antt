@@ -115,7 +115,7 @@ unfolding
     Line.nextAverage Line.before Line.sample Uncut.lineOf Uncut.outputAt Uncut.uncut
     Forward.averageAt Forward.nextAt Forward.prevAt Forward.residualAt Forward.averagesOf Forward.residualsOf
     C.isMeta C.shiftsAllowed C.sidesFit C.isAllowed C.samples
-    Lists.channels Lists.packed Lists.raised Lists.average Lists.residual Lists.stepped
+    Lists.channels Lists.holding Lists.raised Lists.average Lists.residual Lists.stepped
     Questions.countAllowed Questions.channelsAllowed Questions.totalAllowed Questions.rangeAllowed Questions.kindsAlike Questions.placeAllowed Questions.hasSides Questions.shiftsKept Questions.roomLeft Questions.judgeStep
     Steps.flagsOf Steps.flagsAllowed Steps.steps Steps.allFlags Steps.packed
     Versions.isVersion Versions.ruleOf Default.metaCount Default.chroma Default.rounds Default.allChannels Default.defaultSteps Count.isCoarse Count.coarseCount

@@ -1,7 +1,7 @@
 -- The demands, over the definitions that the C functions' contracts cite: `answer`, `pictureOf`, `pyramidOf` and `workOf` of crate squeeze for
 -- `squeeze_rebuild` and `squeeze_write`, `answer` and `after` of crate tile for `squeeze_tile`, `numbersAfter` for `squeeze_grid_rect`, `listAnswer`,
--- `textAfter` and `sizeAfter` for `squeeze_listing`, those of crate numbered for `squeeze_record`; and those of `rewrite`, `write_record` and
--- `list_input`. Statements only; proofs/Demands.antt proves them.
+-- `textAfter` and `sizeAfter` for `squeeze_listing`, those of crate layout for `squeeze_layout` and of crate numbered for `squeeze_record`; and those of
+-- `rewrite`, `write_record` and `list_input`. Statements only; proofs/Demands.antt proves them.
 use mathlib.Core.Path.{_≡_}
 use mathlib.Core.Bool.{true, false}
 use mathlib.Core.List.{List, [], _∷_, _++_}
@@ -32,6 +32,7 @@ use Rattle.record.specs.Records.{readAnswer, channelsOf, stepsOf, reachedOf, wr
 use Rattle.record.specs.Laws.{ReadWrittenLaw, WrittenReadLaw, OneRecord}
 use Rattle.listing.specs.Text.{refusedWord, numbered}
 use Rattle.listing.specs.Listing.{listing, listAnswer, textAfter, sizeAfter, judgedBytes, printed}
+use Rattle.layout.specs.Layout as Layout
 use Rattle.numbered.specs.Laws as Numbered
 use Rattle.runs.specs.Runs.{layout}
 use Rattle.runs.specs.Unbounded.{RunInDomain, standardRun}
@@ -48,6 +49,7 @@ pub record RefusalKeeps : Type 0 where
   pub rectangle : (c : Channel) (output stored group gx gy : ℕ) (numbers : List ℕ) → (Rect.answer c output stored group gx gy numbers ≡ 0 → ⊥)
       → Rect.numbersAfter c output stored group gx gy numbers ≡ numbers
   pub listing : (bytes text size : List ℕ) → (listAnswer bytes text size ≡ 0 → ⊥) → (textAfter bytes text size ≡ text) × (sizeAfter bytes text size ≡ size)
+  pub layout : (bytes : List ℕ) (out : Layout.Rows) → (Layout.answer bytes out ≡ 0 → ⊥) → Layout.after bytes out ≡ out
   pub from-numbers : Numbered.RefusalKeeps
   pub record-writer : (version : ℕ) (l : ChannelList) (s : Steps) (out : List ℕ) → (writtenOf version l s out .answer ≡ 0 → ⊥) → writtenBytes version l s out ≡ out
 

@@ -12,17 +12,17 @@ use Rattle.channel.specs.Channel.{shiftsAllowed, sidesFit, isAllowed}
 use Rattle.list.specs.declared.ChannelList.{ChannelList}
 use Rattle.list.specs.declared.Step.{Step}
 use Rattle.list.specs.Tables.{all}
-use Rattle.list.specs.Lists.{maxChannels, channels, packed, range}
+use Rattle.list.specs.Lists.{maxChannels, channels, holding, packed, range}
 use Rattle.list.specs.Questions.{countAllowed, metaFirst, channelsAllowed, totalAllowed, judgeList, channelOf, rangeAllowed, kindsAlike, placeAllowed, hasSides, shiftsKept, roomLeft, judgeStep}
 use Rattle.list.specs.Accepted.{Accepted, StepAccepted}
 use Rattle.list.proofs.Channels.{range-inside, channels-length}
-use Rattle.list.proofs.Packed.{channels-packed}
+use Rattle.list.proofs.Packed.{channels-held, channels-packed}
 use Rattle.list.proofs.Maps.{all-at, both-all}
 use Rattle.list.proofs.Asking.{passed}
 
-packed-count : (cs : List Channel) → packed cs .count ≡ length cs
-unfolding packed
-packed-count cs = refl
+held-count : (cs : List Channel) (os : List ℕ) → holding cs os .count ≡ length cs
+unfolding holding
+held-count cs os = refl
 
 -- ---- the list
 pub count-inside : (l : ChannelList) → judgeList l ≡ 0 → (1 ≤ l .count) × (l .count ≤ maxChannels)
@@ -50,12 +50,15 @@ pub accepted-sides : (cs : List Channel) → Accepted cs → (k : ℕ) → k < l
 accepted-sides cs ok k h = all-at sidesFit cs k _ (allowed-both cs (ok .allowed) .1) h
 
 pub accepted-packed : (cs : List Channel) → judgeList (packed cs) ≡ 0 → Accepted cs
-accepted-packed cs h = rw (channels-packed cs (rw (packed-count cs) at (count-inside (packed cs) h .1))) at (list-accepted (packed cs) h)
+accepted-packed cs h = rw (channels-packed cs (rw (held-count cs _) at (count-inside (packed cs) h .1))) at (list-accepted (packed cs) h)
+
+pub held-accepted : (cs : List Channel) (os : List ℕ) → Accepted cs → judgeList (holding cs os) ≡ 0
+unfolding judgeList countAllowed
+held-accepted cs os ok =
+    rw (channels-held cs os (ok .few), held-count cs os, le-leb 1 (length cs) (ok .some), le-leb (length cs) maxChannels (ok .few), ok .allowed, ok .samples)
 
 pub packed-accepted : (cs : List Channel) → Accepted cs → judgeList (packed cs) ≡ 0
-unfolding judgeList countAllowed
-packed-accepted cs ok =
-    rw (channels-packed cs (ok .few), packed-count cs, le-leb 1 (length cs) (ok .some), le-leb (length cs) maxChannels (ok .few), ok .allowed, ok .samples)
+packed-accepted cs ok = held-accepted cs _ ok
 
 -- ---- a step
 pub step-accepted : (s : Step) (cs : List Channel) → judgeStep s cs ≡ 0 → StepAccepted s cs

@@ -1,20 +1,30 @@
--- The channels that flat arrays hold: how many, each of them, and a step's range of them. Assumes nothing.
+-- The channels that flat arrays hold: how many, each of them, and a step's range of them; their origins likewise. Assumes nothing.
 use mathlib.Core.Path.{_≡_, sym, ap, _∙_}
 use mathlib.Core.Bool.{Bool, true, and-eq-true-iff}
-use mathlib.Core.List.{List}
+use mathlib.Core.List.{List, [], _∷_, _++_}
 use Prim.Native.Nat.{ℕ, _+_, _-_, _<_, _≤_, min}
 use native.Mathlib.Omega.{arith}
 use lib.Dec.{leb}
-use lib.ListN.{length}
+use lib.ListN.{length, getD}
 use borrow.Author.Tests.{leb-true}
 use Rattle.channel.specs.declared.Channel.{Channel}
 use Rattle.channel.specs.Channel.{isMeta}
 use Rattle.list.specs.declared.ChannelList.{ChannelList}
 use Rattle.list.specs.declared.Step.{Step}
 use Rattle.list.specs.Tables.{table}
-use Rattle.list.specs.Lists.{maxChannels, channelAt, channels, range}
+use Rattle.list.specs.Lists.{maxChannels, channelAt, channels, origins, ownPositions, range}
 use Rattle.list.specs.Questions.{channelOf, rangeAllowed}
-use Rattle.list.proofs.Tables.{table-length, table-at, table-within}
+use Rattle.list.proofs.Tables.{table-length, table-at, table-snoc, table-within}
+
+-- own positions
+pub own-length : (n : ℕ) → length (ownPositions n) ≡ n
+own-length n = table-length (λ k. k) 0 n
+
+pub own-at : (n k : ℕ) → k < n → k ≡ getD (ownPositions n) k 0
+own-at n k h = let z : 0 + k ≡ k = omega arith in sym (table-at (λ j. j) 0 n k 0 h ∙ z)
+
+pub own-snoc : (n : ℕ) → ownPositions (n + 1) ≡ ownPositions n ++ n ∷ []
+own-snoc n = let z : 0 + n ≡ n = omega arith in rw z at (table-snoc (λ k. k) 0 n)
 
 -- question 7
 pub range-inside : (s : Step) (cs : List Channel) → rangeAllowed s cs ≡ true → (1 ≤ s .number) × (s .begin + s .number ≤ length cs)
@@ -39,6 +49,17 @@ module _ (l : ChannelList) where
       let n = channels-length in
       let z : 0 + k ≡ k = omega arith in
       sym (table-at (channelAt l) 0 (min (l .count) maxChannels) k _ (omega arith) ∙ ap (channelAt l) z)
+
+  pub origins-length : length (origins l) ≡ min (l .count) maxChannels
+  unfolding origins
+  origins-length = table-length (λ k. getD (l .origins) k 0) 0 _
+
+  pub origins-at : (k : ℕ) → k < length (origins l) → getD (l .origins) k 0 ≡ getD (origins l) k 0
+  unfolding origins
+  origins-at k h =
+      let n = origins-length in
+      let z : 0 + k ≡ k = omega arith in
+      sym (table-at (λ i. getD (l .origins) i 0) 0 (min (l .count) maxChannels) k 0 (omega arith) ∙ ap (λ (i : ℕ). getD (l .origins) i 0) z)
 
   -- the channel c that was found at k, and whether it is meta
   module _ (k : ℕ) (c : Channel) (h : k < length (channels l)) (e : c ≡ channelAt l k) where

@@ -9,11 +9,12 @@ use Rattle.list.specs.declared.Step.{Step}
 use Rattle.list.specs.Tables.{map}
 use Rattle.list.specs.Lists.{average, residual, before, range, after}
 
-pub range-after : (s : Step) (cs : List Channel) → range s cs ++ after s cs ≡ drop (s .begin) cs
-range-after s cs = rw (← (drop-drop (s .number) (s .begin) cs)) (take-append-drop (s .number) (drop (s .begin) cs))
+module _ {ℓ} {A : Type ℓ} (s : Step) (xs : List A) where
+  pub range-after : range s xs ++ after s xs ≡ drop (s .begin) xs
+  range-after = rw (← (drop-drop (s .number) (s .begin) xs)) (take-append-drop (s .number) (drop (s .begin) xs))
 
-pub parts-whole : (s : Step) (cs : List Channel) → before s cs ++ (range s cs ++ after s cs) ≡ cs
-parts-whole s cs = rw (range-after s cs) (take-append-drop (s .begin) cs)
+  pub parts-whole : before s xs ++ (range s xs ++ after s xs) ≡ xs
+  parts-whole = rw range-after (take-append-drop (s .begin) xs)
 
 abbrev pub averages : Step → List Channel → List Channel
 averages s cs = map (average (s .horizontal)) (range s cs)

@@ -2,7 +2,7 @@
 -- Assumes nothing.
 use mathlib.Core.Path.{_≡_, refl, ap, _∙_}
 use mathlib.Core.Bool.{Bool, true, false}
-use mathlib.Core.List.{List, [], _∷_}
+use mathlib.Core.List.{List, [], _∷_, _++_}
 use Prim.Native.Nat.{ℕ, zero, suc, _+_, _-_, _<_, _≤_, min}
 use native.Mathlib.Omega.{arith}
 use native.Mathlib.Numerals.{add-one}
@@ -18,6 +18,13 @@ module _ {ℓ} {A : Type ℓ} (f : ℕ → A) where
   table-at k zero i d h = absurd (omega arith)
   table-at k (suc n) zero d h = let e : k + 0 ≡ k = omega arith in rw e
   table-at k (suc n) (suc i) d h = let e : k + suc i ≡ suc k + i = omega arith in rw e (table-at (suc k) n i d (omega arith))
+
+  pub table-snoc : (k n : ℕ) → table f k (n + 1) ≡ table f k n ++ f (k + n) ∷ []
+  table-snoc k zero = let e : k + 0 ≡ k = omega arith in rw e
+  table-snoc k (suc n) =
+      let e : k + suc n ≡ suc k + n = omega arith in
+      let z : suc n + 1 ≡ suc (n + 1) = omega arith in
+      rw (z, e) (ap (λ (l : List A). f k ∷ l) (table-snoc (suc k) n))
 
   -- what a loop over k has left before it ends at n
   pub table-rest : (k n : ℕ) → k < n → table f k (n - k) ≡ f k ∷ table f (k + 1) (n - (k + 1))

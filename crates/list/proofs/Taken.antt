@@ -7,7 +7,7 @@ use borrow.Author.Tests.{eq-eqb, ne-eqb, eqb-true, eqb-false}
 use Rattle.list.specs.declared.ChannelList.{ChannelList}
 use Rattle.list.specs.declared.Step.{Step}
 use Rattle.list.specs.declared.Stepped.{Stepped}
-use Rattle.list.specs.Lists.{channels, packed, stepped}
+use Rattle.list.specs.Lists.{channels, nextList}
 use Rattle.list.specs.Questions.{judgeList, judgeStep, stepAnswer, taken, takenOn}
 
 module _ (s : Step) (l : ChannelList) where
@@ -25,7 +25,7 @@ module _ (s : Step) (l : ChannelList) where
   unfolding takenOn
   on-refused h = rw (ne-eqb (judgeStep s (channels l)) 0 h)
 
-  pub on-taken : judgeStep s (channels l) ≡ 0 → takenOn s l ≡ record { answer = 0; list = packed (stepped s (channels l)) }
+  pub on-taken : judgeStep s (channels l) ≡ 0 → takenOn s l ≡ record { answer = 0; list = nextList s l }
   unfolding takenOn
   on-taken h = rw (eq-eqb (judgeStep s (channels l)) 0 h)
 
@@ -45,5 +45,5 @@ module _ (s : Step) (l : ChannelList) where
   unfolding taken takenOn
   list-passed z = rw (step-answer z)
 
-  pub step-taken : judgeList l ≡ 0 → judgeStep s (channels l) ≡ 0 → taken s l ≡ record { answer = 0; list = packed (stepped s (channels l)) }
+  pub step-taken : judgeList l ≡ 0 → judgeStep s (channels l) ≡ 0 → taken s l ≡ record { answer = 0; list = nextList s l }
   step-taken z h = list-passed z ∙ on-taken h

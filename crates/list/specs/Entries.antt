@@ -16,11 +16,12 @@ isInside start number k = leb start k && ltb (k - start) number
 unfoldable pub source : Step → ℕ → ℕ → ℕ
 source s r k = cond (ltb k r) k (cond (ltb (k - r) (s .number)) (k - r + s .begin) (k - s .number))
 
--- what is made of the channel c: an average inside the range, a residual inside the residuals, else c itself
+-- what is made of x: an average by f inside the range, a residual by g inside the residuals, else x itself
+abbrev pub entryBy {ℓ} : {A : Type ℓ} → (A → A) → (A → A) → Step → ℕ → ℕ → A → A
+entryBy f g s r k x = cond (isInside (s .begin) (s .number) k) (f x) (cond (isInside r (s .number) k) (g x) x)
+
 unfoldable pub entry : Step → ℕ → ℕ → Channel → Channel
-entry s r k c =
-    cond (isInside (s .begin) (s .number) k) (average (s .horizontal) c)
-    (cond (isInside r (s .number) k) (residual (s .horizontal) c) c)
+entry s r k c = entryBy (average (s .horizontal)) (residual (s .horizontal)) s r k c
 
 -- question 11 lets c through where it is not c itself
 unfoldable pub entryAllowed : Step → ℕ → ℕ → Channel → Bool

@@ -1,5 +1,5 @@
 -- Channel lists (document 01, "The entry", "The list and the plan"): the list that flat arrays of 256 entries hold up to their count, and the
--- list that a step leaves. Definitions only.
+-- list that a step leaves; beside the channels their origins (document 02, A.4). Definitions only.
 use mathlib.Core.Bool.{Bool, cond}
 use mathlib.Core.List.{List, [], _∷_, _++_}
 use Prim.Native.Nat.{ℕ, _+_, _-_, _/_, min}
@@ -31,16 +31,29 @@ channelAt l k = entryOf (l .widths) (l .heights) (l .hshifts) (l .vshifts) k
 unfoldable pub channels : ChannelList → List Channel
 channels l = table (channelAt l) 0 (min (l .count) maxChannels)
 
--- the arrays that hold a list, unused entries 0
-unfoldable pub packed : List Channel → ChannelList
-packed cs =
+-- A.4: "Every channel in a list carries the position, in the list before the plan, of the channel it was made from"; the origins of those channels
+unfoldable pub origins : ChannelList → List ℕ
+origins l = table (λ k. getD (l .origins) k 0) 0 (min (l .count) maxChannels)
+
+-- "its own position", of each of n channels
+abbrev pub ownPositions : ℕ → List ℕ
+ownPositions n = table (λ k. k) 0 n
+
+-- the arrays that hold a list and its origins, unused entries 0
+unfoldable pub holding : List Channel → List ℕ → ChannelList
+holding cs os =
     record {
       count = length cs;
       widths = padded maxChannels (map (λ (c : Channel). c .width) cs);
       heights = padded maxChannels (map (λ (c : Channel). c .height) cs);
       hshifts = padded maxChannels (map (λ (c : Channel). c .hshift) cs);
       vshifts = padded maxChannels (map (λ (c : Channel). c .vshift) cs);
+      origins = padded maxChannels os;
     }
+
+-- a list in which each channel has its own position, as one that is read
+abbrev pub packed : List Channel → ChannelList
+packed cs = holding cs (ownPositions (length cs))
 
 -- an array with entry k set; past its 256 entries there is none to set
 unfoldable pub stored : ℕ → ℕ → List ℕ → List ℕ
@@ -82,23 +95,34 @@ average horizontal c = raised horizontal (sided halved horizontal c)
 unfoldable pub residual : Bool → Channel → Channel
 residual horizontal c = raised horizontal (sided rest horizontal c)
 
--- a step's range, and what stands before and after it
-abbrev pub before : Step → List Channel → List Channel
-before s cs = take (s .begin) cs
+-- a step's range, and what stands before and after it: of channels, and of what is told of each
+abbrev pub before {ℓ} : {A : Type ℓ} → Step → List A → List A
+before s xs = take (s .begin) xs
 
-abbrev pub range : Step → List Channel → List Channel
-range s cs = take (s .number) (drop (s .begin) cs)
+abbrev pub range {ℓ} : {A : Type ℓ} → Step → List A → List A
+range s xs = take (s .number) (drop (s .begin) xs)
 
-abbrev pub after : Step → List Channel → List Channel
-after s cs = drop (s .begin + s .number) cs
+abbrev pub after {ℓ} : {A : Type ℓ} → Step → List A → List A
+after s xs = drop (s .begin + s .number) xs
 
--- "Residuals go, in order, straight after the range if in place, else after the last channel"
-unfoldable pub stepped : Step → List Channel → List Channel
-stepped s cs =
-    before s cs ++ (map (average (s .horizontal)) (range s cs)
+-- "Residuals go, in order, straight after the range if in place, else after the last channel": f makes an average of what is squeezed, g a residual
+abbrev pub moved {ℓ} : {A : Type ℓ} → (A → A) → (A → A) → Step → List A → List A
+moved f g s xs =
+    before s xs ++ (map f (range s xs)
     ++ cond (s .inplace)
-    (map (residual (s .horizontal)) (range s cs) ++ after s cs)
-    (after s cs ++ map (residual (s .horizontal)) (range s cs)))
+    (map g (range s xs) ++ after s xs)
+    (after s xs ++ map g (range s xs)))
+
+unfoldable pub stepped : Step → List Channel → List Channel
+stepped s cs = moved (average (s .horizontal)) (residual (s .horizontal)) s cs
+
+-- A.4: an average keeps its channel's origin, and "A residual takes the origin of the channel squeezed, also when that was itself a residual"
+unfoldable pub steppedOrigins : Step → List ℕ → List ℕ
+steppedOrigins s os = moved (λ o. o) (λ o. o) s os
+
+-- the next list, its origins made from those that the list came with
+abbrev pub nextList : Step → ChannelList → ChannelList
+nextList s l = holding (stepped s (channels l)) (steppedOrigins s (origins l))
 
 -- ---- "all samples of the list"
 abbrev pub total : List Channel → ℕ

@@ -12,7 +12,7 @@ use Rattle.list.specs.declared.ChannelList.{ChannelList}
 use Rattle.list.specs.declared.Step.{Step}
 use Rattle.list.specs.declared.Stepped.{Stepped}
 use Rattle.list.specs.Tables.{all}
-use Rattle.list.specs.Lists.{maxChannels, channels, packed, range, raised, stepped, total}
+use Rattle.list.specs.Lists.{maxChannels, channels, range, raised, total, nextList}
 
 -- a question: its answer, the refusal's number where it is "no", and what is asked next
 abbrev pub ask : Bool → ℕ → ℕ → ℕ
@@ -52,8 +52,11 @@ judgeList l =
 
 -- ---- a step
 -- the channel at k; past the list a channel of zeros
+abbrev pub noChannel : Channel
+noChannel = record { width = 0; height = 0; hshift = 0; vshift = 0 }
+
 abbrev pub channelOf : List Channel → ℕ → Channel
-channelOf cs k = getD cs k (record { width = 0; height = 0; hshift = 0; vshift = 0 })
+channelOf cs k = getD cs k noChannel
 
 -- 7. "Is the number at least 1 and first + number at most the channel count?"
 unfoldable pub rangeAllowed : Step → List Channel → Bool
@@ -96,12 +99,12 @@ stepAnswer s l = ask (eqb (judgeList l) 0) (judgeList l) (judgeStep s (channels 
 unfoldable pub taken : Step → ChannelList → Stepped
 taken s l =
     cond (eqb (stepAnswer s l) 0)
-    (record { answer = 0; list = packed (stepped s (channels l)) })
+    (record { answer = 0; list = nextList s l })
     (record { answer = stepAnswer s l; list = l })
 
 -- questions 7 to 11 alone
 unfoldable pub takenOn : Step → ChannelList → Stepped
 takenOn s l =
     cond (eqb (judgeStep s (channels l)) 0)
-    (record { answer = 0; list = packed (stepped s (channels l)) })
+    (record { answer = 0; list = nextList s l })
     (record { answer = judgeStep s (channels l); list = l })

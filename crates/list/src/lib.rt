@@ -30,6 +30,7 @@ pub struct ChannelList {
     pub heights: [u32; 256],
     pub hshifts: [u8; 256],
     pub vshifts: [u8; 256],
+    pub origins: [u8; 256],
 }
 
 // A squeeze step (the Rust's `SqueezeParams`).
@@ -179,11 +180,11 @@ fn side_at(sides: &[u32], k: usize) -> u32
     if k < sides.len() { sides[k] } else { 0 }
 }
 
-// Entry `k` of an array of shifts, 0 past it.
-fn shift_at(shifts: &[u8], k: usize) -> u8
-    ensures { λ r. ⌜ r ≡ getD (now (shifts .entry)) k 0 ⌝ }
+// Entry `k` of an array of shifts or origins, 0 past it.
+fn byte_at(bytes: &[u8], k: usize) -> u8
+    ensures { λ r. ⌜ r ≡ getD (now (bytes .entry)) k 0 ⌝ }
 {
-    if k < shifts.len() { shifts[k] } else { 0 }
+    if k < bytes.len() { bytes[k] } else { 0 }
 }
 
 // Entry `k` of flat arrays, zeros past them.
@@ -199,21 +200,24 @@ pub fn entry_of<'a>(
     Channel {
         width: side_at(widths, k),
         height: side_at(heights, k),
-        hshift: shift_at(hshifts, k),
-        vshift: shift_at(vshifts, k),
+        hshift: byte_at(hshifts, k),
+        vshift: byte_at(vshifts, k),
     }
 }
 
-// A channel as entry `k` of flat arrays; past them nothing is stored.
+// A channel and its origin as entry `k` of flat arrays; past them nothing is
+// stored.
 pub fn store(
     c: Channel,
+    origin: u8,
     k: usize,
     widths: &mut [u32; 256],
     heights: &mut [u32; 256],
     hshifts: &mut [u8; 256],
     vshifts: &mut [u8; 256],
+    origins: &mut [u8; 256],
 )
-    ensures { λ _. ⌜ (now (widths .exit) ≡ Lists.stored k (c .width) (now (widths .entry))) × (now (heights .exit) ≡ Lists.stored k (c .height) (now (heights .entry))) × (now (hshifts .exit) ≡ Lists.stored k (c .hshift) (now (hshifts .entry))) × (now (vshifts .exit) ≡ Lists.stored k (c .vshift) (now (vshifts .entry))) ⌝ }
+    ensures { λ _. ⌜ (now (widths .exit) ≡ Lists.stored k (c .width) (now (widths .entry))) × (now (heights .exit) ≡ Lists.stored k (c .height) (now (heights .entry))) × (now (hshifts .exit) ≡ Lists.stored k (c .hshift) (now (hshifts .entry))) × (now (vshifts .exit) ≡ Lists.stored k (c .vshift) (now (vshifts .entry))) × (now (origins .exit) ≡ Lists.stored k origin (now (origins .entry))) ⌝ }
 {
     if k < ChannelList::MAX_CHANNELS {
         let width = c.width;
@@ -224,6 +228,7 @@ pub fn store(
         heights[k] = height;
         hshifts[k] = hshift;
         vshifts[k] = vshift;
+        origins[k] = origin;
     }
 }
 
@@ -244,6 +249,7 @@ impl ChannelList {
             heights: [0u32; 256],
             hshifts: [0u8; 256],
             vshifts: [0u8; 256],
+            origins: [0u8; 256],
         }
     }
 
@@ -431,10 +437,11 @@ impl ChannelList {
         }
     }
 
-    // The list that a step leaves.
+    // The list that a step leaves: each channel has the origin of the one that it
+    // is made of.
     fn stepped(self, step: Step) -> ChannelList
         requires { ⌜ StepAccepted step (Lists.channels self) ⌝ }
-        ensures { λ r. ⌜ r ≡ Lists.packed (Lists.stepped step (Lists.channels self)) ⌝ }
+        ensures { λ r. ⌜ r ≡ Lists.nextList step self ⌝ }
     {
         let count = self.len() + step.number as usize;
         let residuals = self.residuals_at(step);
@@ -442,11 +449,22 @@ impl ChannelList {
         let mut heights = [0u32; 256];
         let mut hshifts = [0u8; 256];
         let mut vshifts = [0u8; 256];
+        let mut origins = [0u8; 256];
         for k in 0..count {
             let j = source(step, residuals, k);
             let from = entry_of(&self.widths, &self.heights, &self.hshifts, &self.vshifts, j);
+            let origin = byte_at(&self.origins, j);
             let c = entry(from, step, residuals, k);
-            store(c, k, &mut widths, &mut heights, &mut hshifts, &mut vshifts);
+            store(
+                c,
+                origin,
+                k,
+                &mut widths,
+                &mut heights,
+                &mut hshifts,
+                &mut vshifts,
+                &mut origins,
+            );
         }
         ChannelList {
             count,
@@ -454,6 +472,7 @@ impl ChannelList {
             heights,
             hshifts,
             vshifts,
+            origins,
         }
     }
 

@@ -30,7 +30,7 @@ map-table h f k (suc n) = ap (_∷_ (h (f k))) (map-table h f (suc k) n)
 -- ---- the list
 module _ (ns : List ℕ) where
   pub list-count : listOf ns .count ≡ groups channelNumbers ns
-  unfolding Lists.packed
+  unfolding Lists.holding
   list-count = channels-count ns
 
   pub list-channels : groups channelNumbers ns ≤ maxChannels → channels (listOf ns) ≡ channelsOf ns

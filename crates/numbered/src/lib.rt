@@ -19,10 +19,10 @@ use numbers::REFUSED_LENGTH;
 use plan::Steps;
 
 // Width, height and two shifts.
-const CHANNEL_NUMBERS: usize = 4;
+pub const CHANNEL_NUMBERS: usize = 4;
 
 // Flags, first channel and number.
-const STEP_NUMBERS: usize = 3;
+pub const STEP_NUMBERS: usize = 3;
 
 // The largest first channel or number that a step's arrays hold.
 const MAX_ENTRY: u32 = 65_535;
@@ -77,7 +77,7 @@ fn channel_at(channels: &[u32], k: usize) -> Channel
     }
 }
 
-// The list of channels whose shifts fit.
+// The list of channels whose shifts fit, each with its own position.
 fn list_of(channels: &[u32]) -> ChannelList
     requires { ⌜ (Spec.groups Spec.channelNumbers (now channels) ≤ maxChannels) × (all Arrays.shiftsFit (Spec.channelsOf (now channels)) ≡ true) ⌝ }
     ensures { λ r. ⌜ r ≡ Arrays.listOf (now (channels .entry)) ⌝ }
@@ -87,9 +87,19 @@ fn list_of(channels: &[u32]) -> ChannelList
     let mut heights = [0u32; 256];
     let mut hshifts = [0u8; 256];
     let mut vshifts = [0u8; 256];
+    let mut origins = [0u8; 256];
     for k in 0..count {
         let c = channel_at(channels, k);
-        store(c, k, &mut widths, &mut heights, &mut hshifts, &mut vshifts);
+        store(
+            c,
+            k as u8,
+            k,
+            &mut widths,
+            &mut heights,
+            &mut hshifts,
+            &mut vshifts,
+            &mut origins,
+        );
     }
     ChannelList {
         count,
@@ -97,6 +107,7 @@ fn list_of(channels: &[u32]) -> ChannelList
         heights,
         hshifts,
         vshifts,
+        origins,
     }
 }
 

@@ -2,54 +2,16 @@
 -- others; and the place that each of them comes from (`root`). Assumes nothing.
 use mathlib.Core.Path.{_≡_, refl, ap, _∙_}
 use mathlib.Core.Bool.{Bool, true, false, cond}
-use mathlib.Core.List.{List, _++_}
+use mathlib.Core.List.{List}
 use mathlib.Core.Logic.{_⊎_, inl, inr}
 use Prim.Native.Nat.{ℕ, _+_, _-_, _<_, _≤_}
 use native.Mathlib.Omega.{arith}
 use lib.Dec.{ltb}
-use lib.ListN.{length, take, drop, length-append, length-take, length-drop}
-use lib.Seq.{length-take-le, getD-take, getD-drop}
+use lib.ListN.{length}
 use borrow.Author.Tests.{ltb-true, ltb-false, lt-ltb, le-ltb}
 use Rattle.list.specs.declared.Step.{Step}
-use Rattle.list.specs.Tables.{map}
-use Rattle.list.proofs.Maps.{map-length, map-at, left-at, right-at}
-use Rattle.list.proofs.Parts.{joined}
+use Rattle.list.proofs.Entries.{moved-length, moved-before, moved-average, moved-between, moved-residual, moved-after}
 use Rattle.places.specs.Places.{Place, averagePlace, residualPlace, stepPlaces, residualsAt, root, placeOf}
-
--- m residuals and n other places
-module _ (rs xs : List Place) (m n : ℕ) (er : length rs ≡ m) (ex : length xs ≡ n) where
-  joined-length : (i : Bool) → length (joined i rs xs) ≡ n + m
-  joined-length true = omega (arith, length-append rs xs)
-  joined-length false = omega (arith, length-append xs rs)
-
-  module _ (j : ℕ) where
-    joined-before : (i : Bool) → j < cond i 0 n → placeOf (joined i rs xs) j ≡ placeOf xs j
-    joined-before true h = absurd (omega arith)
-    joined-before false h = left-at xs rs n j _ ex h
-
-    joined-residual : (i : Bool) → cond i 0 n ≤ j → j < cond i 0 n + m → placeOf (joined i rs xs) j ≡ placeOf rs (j - cond i 0 n)
-    joined-residual true h l = let z : j - 0 ≡ j = omega arith in rw z (left-at rs xs m j _ er (omega arith))
-    joined-residual false h l = right-at xs rs n j _ ex h
-
-    joined-after : (i : Bool) → cond i 0 n + m ≤ j → j < n + m → placeOf (joined i rs xs) j ≡ placeOf xs (j - m)
-    joined-after true h l = right-at rs xs m j _ er (omega arith)
-    joined-after false h l = absurd (omega arith)
-
--- the parts of a list under a step, and those of the list that it leaves
-abbrev range : Step → List Place → List Place
-range s ps = take (s .number) (drop (s .begin) ps)
-
-abbrev others : Step → List Place → List Place
-others s ps = drop (s .begin + s .number) ps
-
-abbrev averages : Step → List Place → List Place
-averages s ps = map (averagePlace (s .horizontal)) (range s ps)
-
-abbrev residuals : Step → List Place → List Place
-residuals s ps = map (residualPlace (s .horizontal)) (range s ps)
-
-abbrev following : Step → List Place → List Place
-following s ps = joined (s .inplace) (residuals s ps) (others s ps)
 
 -- the residuals start behind the range, and inside the list or at its end
 pub residuals-inside : (count : ℕ) (s : Step) → s .begin + s .number ≤ count → (s .begin + s .number ≤ residualsAt count s) × (residualsAt count s ≤ count)
@@ -60,101 +22,39 @@ residuals-inside count s h = go (s .inplace)
     go false = omega arith
 
 module _ (s : Step) (ps : List Place) (inside : s .begin + s .number ≤ length ps) where
-  length-before : length (take (s .begin) ps) ≡ s .begin
-  length-before = length-take-le (s .begin) ps (omega arith)
-
-  length-range : length (range s ps) ≡ s .number
-  length-range = simp (length-take, length-drop) (omega arith)
-
-  length-averages : length (averages s ps) ≡ s .number
-  length-averages = map-length _ (range s ps) ∙ length-range
-
-  length-residuals : length (residuals s ps) ≡ s .number
-  length-residuals = map-length _ (range s ps) ∙ length-range
-
-  length-after : length (others s ps) ≡ length ps - (s .begin + s .number)
-  length-after = length-drop (s .begin + s .number) ps
-
-  range-at : (i : ℕ) → i < s .number → placeOf (range s ps) i ≡ placeOf ps (s .begin + i)
-  range-at i h = getD-take (s .number) (drop (s .begin) ps) i _ h ∙ getD-drop (s .begin) ps i _
-
-  after-at : (i : ℕ) → placeOf (others s ps) i ≡ placeOf ps (s .begin + s .number + i)
-  after-at i = getD-drop (s .begin + s .number) ps i _
-
-  pub steps-length : length (stepPlaces s ps) ≡ length ps + s .number
-  unfolding stepPlaces
-  steps-length =
-      let b = length-before in
-      let a = length-averages in
-      let r = joined-length (residuals s ps) (others s ps) (s .number) _ length-residuals length-after (s .inplace) in
-      omega (arith, length-append (take (s .begin) ps) (averages s ps ++ following s ps), length-append (averages s ps) (following s ps))
-
-  -- where the residuals start, counted from the range's end
-  abbrev place : Bool → ℕ
-  place i = cond i 0 (length ps - (s .begin + s .number))
-
-  place-from : (i : Bool) → place i + (s .begin + s .number) ≡ cond i (s .begin + s .number) (length ps)
-  place-from true = omega arith
-  place-from false = omega arith
-
   pub residuals-from : (s .begin + s .number ≤ residualsAt (length ps) s) × (residualsAt (length ps) s ≤ length ps)
   residuals-from = residuals-inside (length ps) s inside
 
+  -- the list's laws of a step (list/proofs/Entries.antt)
+  pub steps-length : length (stepPlaces s ps) ≡ length ps + s .number
+  unfolding stepPlaces
+  steps-length = moved-length s ps inside _ _
+
   pub step-before : (k : ℕ) → k < s .begin → placeOf (stepPlaces s ps) k ≡ placeOf ps k
   unfolding stepPlaces
-  step-before k h = left-at (take (s .begin) ps) _ (s .begin) k _ length-before h ∙ getD-take (s .begin) ps k _ h
+  step-before k = moved-before s ps inside _ _ k _
 
   pub step-average : (k : ℕ) → s .begin ≤ k → k < s .begin + s .number → placeOf (stepPlaces s ps) k ≡ averagePlace (s .horizontal) (placeOf ps k)
   unfolding stepPlaces
-  step-average k l h =
-      let n : k - s .begin < s .number = omega arith in
-      let r = length-range in
-      let z : s .begin + (k - s .begin) ≡ k = omega arith in
-      right-at (take (s .begin) ps) _ (s .begin) k _ length-before l
-      ∙ left-at (averages s ps) _ (s .number) (k - s .begin) _ length-averages n
-      ∙ map-at (averagePlace (s .horizontal)) (range s ps) (k - s .begin) _ _ (omega arith)
-      ∙ ap (averagePlace (s .horizontal)) (range-at (k - s .begin) n ∙ ap (placeOf ps) z)
-
-  -- what follows the averages
-  step-rest : (k : ℕ) → s .begin + s .number ≤ k → placeOf (stepPlaces s ps) k ≡ placeOf (following s ps) (k - (s .begin + s .number))
-  unfolding stepPlaces
-  step-rest k l =
-      let z : k - s .begin - s .number ≡ k - (s .begin + s .number) = omega arith in
-      right-at (take (s .begin) ps) _ (s .begin) k _ length-before (omega arith)
-      ∙ right-at (averages s ps) _ (s .number) (k - s .begin) _ length-averages (omega arith)
-      ∙ ap (placeOf (following s ps)) z
+  step-average k = moved-average s ps inside _ _ k _
 
   pub step-residual : (i : ℕ) → i < s .number → placeOf (stepPlaces s ps) (residualsAt (length ps) s + i) ≡ residualPlace (s .horizontal) (placeOf ps (s .begin + i))
+  unfolding stepPlaces
   step-residual i h =
-      let p = place-from (s .inplace) in
-      let n = length-range in
-      let j : ℕ = residualsAt (length ps) s + i - (s .begin + s .number) in
-      let z : residualsAt (length ps) s + i - (s .begin + s .number) - place (s .inplace) ≡ i = omega arith in
-      step-rest (residualsAt (length ps) s + i) (omega arith)
-      ∙ joined-residual (residuals s ps) (others s ps) (s .number) _ length-residuals length-after j (s .inplace) (omega arith) (omega arith)
-      ∙ ap (placeOf (residuals s ps)) z
-      ∙ map-at (residualPlace (s .horizontal)) (range s ps) i _ _ (omega arith)
-      ∙ ap (residualPlace (s .horizontal)) (range-at i h)
+      let f = residuals-from in
+      let r = residualsAt (length ps) s in
+      let z : r + i - r + s .begin ≡ s .begin + i = omega arith in
+      moved-residual s ps inside _ _ (r + i) _ r refl (omega arith) (omega arith) (omega arith) ∙ ap (λ (j : ℕ). residualPlace (s .horizontal) (placeOf ps j)) z
 
   -- not in place: what lies behind the range stays
   pub step-between : (k : ℕ) → s .begin + s .number ≤ k → k < residualsAt (length ps) s → placeOf (stepPlaces s ps) k ≡ placeOf ps k
-  step-between k l h =
-      let p = place-from (s .inplace) in
-      let z : s .begin + s .number + (k - (s .begin + s .number)) ≡ k = omega arith in
-      step-rest k l
-      ∙ joined-before (residuals s ps) (others s ps) (s .number) _ length-residuals length-after (k - (s .begin + s .number)) (s .inplace) (omega arith)
-      ∙ after-at _
-      ∙ ap (placeOf ps) z
+  unfolding stepPlaces
+  step-between k l h = moved-between s ps inside _ _ k _ (residualsAt (length ps) s) refl l h .1
 
   -- in place: what lies behind the range moves on
   pub step-after : (k : ℕ) → residualsAt (length ps) s + s .number ≤ k → k < length ps + s .number → placeOf (stepPlaces s ps) k ≡ placeOf ps (k - s .number)
-  step-after k l h =
-      let p = place-from (s .inplace) in
-      let z : s .begin + s .number + (k - (s .begin + s .number) - s .number) ≡ k - s .number = omega arith in
-      step-rest k (omega arith)
-      ∙ joined-after (residuals s ps) (others s ps) (s .number) _ length-residuals length-after (k - (s .begin + s .number)) (s .inplace) (omega arith) (omega arith)
-      ∙ after-at _
-      ∙ ap (placeOf ps) z
+  unfolding stepPlaces
+  step-after k l h = let f = residuals-from in moved-after s ps inside _ _ k _ (residualsAt (length ps) s) refl (omega arith) l h
 
   -- ---- roots: an index before the residuals, one of them, or one behind them
   pub root-front : (k : ℕ) → k < residualsAt (length ps) s → root (length ps) s k ≡ k

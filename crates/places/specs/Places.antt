@@ -1,15 +1,15 @@
 -- Where the samples of a list's channels lie while the steps of a plan are taken: a channel has its home, a part of a slice as long as the picture,
 -- and a step divides the home between average and residual. The places are kept in flat arrays, filled up to a count. Definitions only.
 use mathlib.Core.Bool.{Bool, cond, _&&_}
-use mathlib.Core.List.{List, [], _∷_, _++_}
+use mathlib.Core.List.{List, [], _∷_}
 use Prim.Native.Nat.{ℕ, _+_, _-_, _*_, min}
 use lib.Dec.{eqb, leb, ltb}
-use lib.ListN.{getD, take, drop}
+use lib.ListN.{getD}
 use Rattle.numbers.specs.Numbers.{maxSamples}
 use Rattle.channel.specs.declared.Channel.{Channel}
 use Rattle.list.specs.declared.Step.{Step}
-use Rattle.list.specs.Tables.{table, map}
-use Rattle.list.specs.Lists.{maxChannels, halved, rest}
+use Rattle.list.specs.Tables.{table}
+use Rattle.list.specs.Lists.{maxChannels, halved, rest, moved}
 
 -- a channel's sides, the start of its home, and its slot: which slice it stands in
 pub record Place : Type 0 where
@@ -75,12 +75,7 @@ residualPlace horizontal p =
 
 -- the order of the list that a step leaves (`stepped` of crate list)
 unfoldable pub stepPlaces : Step → List Place → List Place
-stepPlaces s ps =
-    take (s .begin) ps
-    ++ (map (averagePlace (s .horizontal)) (take (s .number) (drop (s .begin) ps))
-    ++ cond (s .inplace)
-    (map (residualPlace (s .horizontal)) (take (s .number) (drop (s .begin) ps)) ++ drop (s .begin + s .number) ps)
-    (drop (s .begin + s .number) ps ++ map (residualPlace (s .horizontal)) (take (s .number) (drop (s .begin) ps))))
+stepPlaces s ps = moved (averagePlace (s .horizontal)) (residualPlace (s .horizontal)) s ps
 
 -- where the residuals start, and the channel that entry k of the list after the step comes from
 abbrev pub residualsAt : ℕ → Step → ℕ

@@ -13,12 +13,12 @@ use Rattle.list.specs.declared.ChannelList.{ChannelList}
 use Rattle.list.specs.declared.Step.{Step}
 use Rattle.list.specs.declared.Stepped.{Stepped}
 use Rattle.list.specs.Tables.{all}
-use Rattle.list.specs.Lists.{maxSteps, channels, packed}
+use Rattle.list.specs.Lists.{maxSteps, channels}
 use Rattle.numbers.specs.Numbers.{refusedDefault}
 use Rattle.list.specs.Questions.{ask, countAllowed, channelsAllowed, judgeList}
 use Rattle.list.proofs.Tables.{table-length}
 use Rattle.list.proofs.Asking.{passed}
-use Rattle.list.proofs.Acceptance.{count-inside, list-accepted, packed-accepted}
+use Rattle.list.proofs.Acceptance.{count-inside, list-accepted, held-accepted}
 use Rattle.plan.specs.declared.Planned.{Planned}
 use Rattle.plan.specs.declared.Steps.{Steps}
 use Rattle.plan.specs.Steps as S
@@ -152,17 +152,17 @@ module _ (version : ℕ) (l : ChannelList) (s : Steps) where
         er ∙ rw (plan-meaning, ok, meaning-steps ok room)
 
 -- ---- an accepted plan leaves an accepted list
-pub outcome-answer : (a : ℕ) (l : ChannelList) (cs : List Channel) → outcome a l cs .answer ≡ a
+pub outcome-answer : (a : ℕ) (l r : ChannelList) → outcome a l r .answer ≡ a
 unfolding outcome
-outcome-answer a l cs = go (eqb a 0) refl
+outcome-answer a l r = go (eqb a 0) refl
   where
-    go : (b : Bool) → eqb a 0 ≡ b → cond {A = Stepped} b (record { answer = 0; list = packed cs }) (record { answer = a; list = l }) .answer ≡ a
+    go : (b : Bool) → eqb a 0 ≡ b → cond {A = Stepped} b (record { answer = 0; list = r }) (record { answer = a; list = l }) .answer ≡ a
     go true e = sym (eqb-true a 0 e)
     go false e = refl
 
-outcome-list : (a : ℕ) (l : ChannelList) (cs : List Channel) → a ≡ 0 → outcome a l cs .list ≡ packed cs
+outcome-list : (a : ℕ) (l r : ChannelList) → a ≡ 0 → outcome a l r .list ≡ r
 unfolding outcome
-outcome-list a l cs e = rw (eq-eqb a 0 e)
+outcome-list a l r e = rw (eq-eqb a 0 e)
 
 pub rewritten-accepted : (version : ℕ) (l : ChannelList) (s : Steps) → rewritten version l s .answer ≡ 0 → judgeList (rewritten version l s .list) ≡ 0
 unfolding rewritten judgePlan judgeMeant
@@ -172,4 +172,4 @@ rewritten-accepted version l s h =
     let m = passed (meantAllowed (S.steps s) (channels l)) _ _ (p .1) in
     let ok = list-accepted l (form-accepted version l s (p .0) .0) in
     ap judgeList (outcome-list (judgePlan version l s) l _ none)
-    ∙ packed-accepted _ (plan-accepted (meant version (S.steps s) (channels l)) (channels l) ok (m .1))
+    ∙ held-accepted _ _ (plan-accepted (meant version (S.steps s) (channels l)) (channels l) ok (m .1))

@@ -2,24 +2,26 @@
 -- nothing.
 use mathlib.Core.Path.{_≡_, sym, ap, _∙_}
 use mathlib.Core.Bool.{true}
+use mathlib.Core.List.{List}
 use Prim.Native.Nat.{ℕ, _≤_}
 use native.Mathlib.Omega.{arith}
 use lib.ListN.{length}
 use Rattle.list.specs.declared.ChannelList.{ChannelList}
+use Rattle.list.specs.declared.Step.{Step}
 use Rattle.list.specs.declared.Stepped.{Stepped}
 use Rattle.list.specs.Lists as Lists
-use Rattle.list.specs.Lists.{maxChannels, maxSteps, channels, total}
+use Rattle.list.specs.Lists.{maxChannels, maxSteps, channels, origins, total}
 use Rattle.list.specs.Questions.{countedTotal, judgeList}
 use Rattle.list.proofs.Acceptance.{count-inside, list-accepted}
-use Rattle.list.proofs.Packed.{channels-packed}
+use Rattle.list.proofs.Packed.{channels-held, origins-held}
 use Rattle.list.proofs.Totals.{counted-exact}
 use Rattle.plan.specs.declared.Planned.{Planned}
 use Rattle.plan.specs.declared.Steps.{Steps}
 use Rattle.plan.specs.Steps.{steps}
 use Rattle.plan.specs.Version.{isVersion}
 use Rattle.plan.specs.Plans as Plans
-use Rattle.plan.specs.Plans.{judgeForm, judgeMeant, judgePlan, judgeSteps, steppedAll, meant, rewritten, judgeMeaning, meantSteps}
-use Rattle.plan.proofs.Runs.{none-refused}
+use Rattle.plan.specs.Plans.{judgeForm, judgeMeant, judgePlan, judgeSteps, steppedAll, originsLeft, listLeft, meant, rewritten, judgeMeaning, meantSteps}
+use Rattle.plan.proofs.Runs.{none-refused, origins-left}
 use Rattle.plan.proofs.Answers.{steps-length, form-accepted, plan-meaning, meaning-steps, outcome-answer, rewritten-accepted}
 
 module _ (version : ℕ) (l : ChannelList) (s : Steps) where
@@ -64,12 +66,23 @@ module _ (version : ℕ) (l : ChannelList) (s : Steps) where
       pub reached-few : r .list .count ≤ maxChannels
       reached-few = count-inside (r .list) (rw (← e) at (rewritten-accepted version l s (rw e at (plan-answer r e ∙ ok)))) .1
 
-      pub reached-back : channels (r .list) ≡ steppedAll (meant version (steps s) (channels l)) (channels l)
-      unfolding Plans.rewritten Plans.outcome Lists.packed
-      reached-back =
-          let cs = steppedAll (meant version (steps s) (channels l)) (channels l) in
-          let packs : r .list ≡ Lists.packed cs = ap (λ (x : Stepped). x .list) e ∙ rw ok in
-          ap channels packs ∙ channels-packed cs (omega (arith, ap (λ (x : ChannelList). x .count) packs, reached-few))
+      abbrev meant-here : List Step
+      meant-here = meant version (steps s) (channels l)
+
+      holds : r .list ≡ listLeft meant-here (channels l)
+      unfolding Plans.rewritten Plans.outcome
+      holds = ap (λ (x : Stepped). x .list) e ∙ rw ok
+
+      few : length (steppedAll meant-here (channels l)) ≤ maxChannels
+      unfolding Lists.holding
+      few = omega (arith, ap (λ (x : ChannelList). x .count) holds, reached-few)
+
+      pub reached-back : channels (r .list) ≡ steppedAll meant-here (channels l)
+      reached-back = ap channels holds ∙ channels-held _ _ few
+
+      -- and its origins
+      pub reached-origins : origins (r .list) ≡ originsLeft meant-here (channels l)
+      reached-origins = ap origins holds ∙ origins-held _ _ few (origins-left meant-here (channels l) meant-judged)
 
     -- r is what `meant_steps` gave
     pub meant-is : (r : Planned) → r ≡ meantSteps version l s → r .steps .count ≤ maxSteps → steps (r .steps) ≡ meant version (steps s) (channels l)

@@ -181,13 +181,13 @@ at-most version l ok =
     bounded version (channels l) (list-accepted l (form-accepted version l (S.packed []) (a .0) .0)) (ltb-true (metaCount (channels l)) (length (channels l)) some)
 
 reached : HasSteps standardVersion longestList (mostDefaultSteps standardVersion)
-unfolding C.isMeta C.shiftsAllowed C.sidesFit C.isAllowed C.samples L.channels L.packed Q.countAllowed Q.channelsAllowed Q.totalAllowed Q.judgeList
+unfolding C.isMeta C.shiftsAllowed C.sidesFit C.isAllowed C.samples L.channels L.holding Q.countAllowed Q.channelsAllowed Q.totalAllowed Q.judgeList
     Versions.isVersion Versions.ruleOf S.steps S.allFlags S.packed
     D.metaCount D.chroma D.rounds D.allChannels D.defaultSteps P.hasOther P.meantAllowed P.judgeForm P.judgeMeaning P.meantSteps
 reached = (refl, refl)
 
 reached-house : HasSteps houseVersion longestHouse (mostDefaultSteps houseVersion)
-unfolding C.isMeta C.shiftsAllowed C.sidesFit C.isAllowed C.samples L.channels L.packed Q.countAllowed Q.channelsAllowed Q.totalAllowed Q.judgeList
+unfolding C.isMeta C.shiftsAllowed C.sidesFit C.isAllowed C.samples L.channels L.holding Q.countAllowed Q.channelsAllowed Q.totalAllowed Q.judgeList
     Versions.isVersion Versions.ruleOf S.steps S.allFlags S.packed
     D.metaCount D.chroma D.rounds D.allChannels D.defaultSteps P.hasOther P.meantAllowed P.judgeForm P.judgeMeaning P.meantSteps
 reached-house = (refl, refl)

@@ -89,7 +89,7 @@ module _ (ss xs : List Step) (h : length (ss ++ xs) ≤ maxSteps) (s₀ s₁ : S
   packed-both r e = appended-after s₀ s₁ r ss xs e₁ e ∙ rw e₀ (appended-packed [] (ss ++ xs) (omega arith))
 
 -- ---- out of the arrays again
-unpacked : (s : Step) → record { horizontal = eqb (flagsOf s % 2) 1; inplace = eqb (flagsOf s / 2 % 2) 1; begin = s .begin; number = s .number } ≡ s
+pub unpacked : (s : Step) → record { horizontal = eqb (flagsOf s % 2) 1; inplace = eqb (flagsOf s / 2 % 2) 1; begin = s .begin; number = s .number } ≡ s
 unfolding flagsOf
 unpacked s = go (s .horizontal) (s .inplace) (s .begin) (s .number)
   where

@@ -1,5 +1,5 @@
--- A plan on a list: the questions 3 to 11 in document 01's order, for a plan version (document 02, A.11), and the list that the plan leaves. Definitions
--- only.
+-- A plan on a list: the questions 3 to 11 in document 01's order, for a plan version (document 02, A.11), and the list that the plan leaves,
+-- with its origins (A.4). Definitions only.
 use mathlib.Core.Bool.{Bool, true, cond, _&&_}
 use mathlib.Core.List.{List, [], _∷_}
 use Prim.Native.Nat.{ℕ}
@@ -10,8 +10,7 @@ use Rattle.channel.specs.declared.Channel.{Channel}
 use Rattle.list.specs.declared.ChannelList.{ChannelList}
 use Rattle.list.specs.declared.Step.{Step}
 use Rattle.list.specs.declared.Stepped.{Stepped}
-use Rattle.list.specs.Lists as Lists
-use Rattle.list.specs.Lists.{maxSteps, channels, stepped}
+use Rattle.list.specs.Lists.{maxSteps, channels, ownPositions, holding, stepped, steppedOrigins}
 use Rattle.list.specs.Tables.{all}
 use Rattle.list.specs.Questions.{ask, countAllowed, channelsAllowed, totalAllowed, judgeStep}
 use Rattle.plan.specs.declared.Steps.{Steps}
@@ -29,6 +28,17 @@ judgeSteps (s ∷ ss) cs = ask (eqb (judgeStep s cs) 0) (judgeStep s cs) (judgeS
 abbrev pub steppedAll : List Step → List Channel → List Channel
 steppedAll [] cs = cs
 steppedAll (s ∷ ss) cs = steppedAll ss (stepped s cs)
+
+-- the origins that they leave; A.4: "A plan run starts by giving each channel its own position"
+abbrev pub originsAll : List Step → List ℕ → List ℕ
+originsAll [] os = os
+originsAll (s ∷ ss) os = originsAll ss (steppedOrigins s os)
+
+abbrev pub originsLeft : List Step → List Channel → List ℕ
+originsLeft ss cs = originsAll ss (ownPositions (length cs))
+
+abbrev pub listLeft : List Step → List Channel → ChannelList
+listLeft ss cs = holding (steppedAll ss cs) (originsLeft ss cs)
 
 -- 6. "Default plan: is there a channel that is not meta? No: 11"
 unfoldable pub hasOther : List Channel → Bool
@@ -59,16 +69,16 @@ judgePlan version l s =
     ask (eqb (judgeForm version l s) 0) (judgeForm version l s) (judgeMeant version (steps s) (channels l))
 
 -- the answer 0 with the list that is reached, or a refusal's number with the list as it came
-unfoldable pub outcome : ℕ → ChannelList → List Channel → Stepped
-outcome answer l reached = cond (eqb answer 0) (record { answer = 0; list = Lists.packed reached }) (record { answer = answer; list = l })
+unfoldable pub outcome : ℕ → ChannelList → ChannelList → Stepped
+outcome answer l reached = cond (eqb answer 0) (record { answer = 0; list = reached }) (record { answer = answer; list = l })
 
 -- steps on a list that questions 3 to 5 accept
 unfoldable pub ran : List Step → ChannelList → Stepped
-ran ss l = outcome (judgeSteps ss (channels l)) l (steppedAll ss (channels l))
+ran ss l = outcome (judgeSteps ss (channels l)) l (listLeft ss (channels l))
 
 -- a plan on a list
 unfoldable pub rewritten : ℕ → ChannelList → Steps → Stepped
-rewritten version l s = outcome (judgePlan version l s) l (steppedAll (meant version (steps s) (channels l)) (channels l))
+rewritten version l s = outcome (judgePlan version l s) l (listLeft (meant version (steps s) (channels l)) (channels l))
 
 -- ---- the steps that are meant
 -- the answer 0 with steps, or a refusal's number without a step

@@ -383,7 +383,7 @@ pub fn default_squeeze(version: u32, list: ChannelList) -> Planned
     meant_steps(version, list, Steps::empty())
 }
 
-// The list with its unused entries 0.
+// The list with its unused entries 0, each channel's own position as its origin.
 fn tidied(list: ChannelList) -> ChannelList
     requires { ⌜ list .count ≤ maxChannels ⌝ }
     ensures { λ r. ⌜ r ≡ packed (channels list) ⌝ }
@@ -393,9 +393,19 @@ fn tidied(list: ChannelList) -> ChannelList
     let mut heights = [0u32; 256];
     let mut hshifts = [0u8; 256];
     let mut vshifts = [0u8; 256];
+    let mut origins = [0u8; 256];
     for k in 0..count {
         let c = entry_of(&list.widths, &list.heights, &list.hshifts, &list.vshifts, k);
-        store(c, k, &mut widths, &mut heights, &mut hshifts, &mut vshifts);
+        store(
+            c,
+            k as u8,
+            k,
+            &mut widths,
+            &mut heights,
+            &mut hshifts,
+            &mut vshifts,
+            &mut origins,
+        );
     }
     ChannelList {
         count,
@@ -403,6 +413,7 @@ fn tidied(list: ChannelList) -> ChannelList
         heights,
         hshifts,
         vshifts,
+        origins,
     }
 }
 

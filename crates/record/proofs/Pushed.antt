@@ -9,7 +9,8 @@ use Rattle.channel.specs.declared.Channel.{Channel}
 use Rattle.channel.specs.Channel.{isMeta, isAllowed}
 use Rattle.list.specs.Tables.{padded, map, all}
 use Rattle.list.specs.Lists as Lists
-use Rattle.list.specs.Lists.{maxChannels}
+use Rattle.list.specs.Lists.{maxChannels, ownPositions}
+use Rattle.list.proofs.Channels.{own-length, own-snoc}
 use Rattle.list.proofs.Maps.{map-length}
 use Rattle.plan.proofs.Packed.{padded-snoc}
 use Rattle.record.specs.Reading.{channelAllowed}
@@ -42,8 +43,16 @@ entry-pushed f cs c h =
     ∙ padded-snoc maxChannels (map f cs) (f c) (omega arith)
     ∙ ap (padded maxChannels) (sym (map-snoc f cs c))
 
+-- its own position after theirs
+own-pushed : (n : ℕ) → n < maxChannels → set (padded maxChannels (ownPositions n)) n n ≡ padded maxChannels (ownPositions (n + 1))
+own-pushed n h =
+    let e = own-length n in
+    ap (λ (k : ℕ). set (padded maxChannels (ownPositions n)) k n) (sym e)
+    ∙ padded-snoc maxChannels (ownPositions n) n (omega arith)
+    ∙ ap (padded maxChannels) (sym (own-snoc n))
+
 pub list-pushed : (cs : List Channel) (c : Channel) → length cs < maxChannels → withChannel (Lists.packed cs) c ≡ Lists.packed (cs ++ c ∷ [])
-unfolding withChannel Lists.packed
+unfolding withChannel Lists.holding
 list-pushed cs c h =
     let n : length cs + 1 ≡ length (cs ++ c ∷ []) = rw length-append in
     λ i. record {
@@ -52,8 +61,9 @@ list-pushed cs c h =
       heights = entry-pushed (λ (d : Channel). d .height) cs c h i;
       hshifts = entry-pushed (λ (d : Channel). d .hshift) cs c h i;
       vshifts = entry-pushed (λ (d : Channel). d .vshift) cs c h i;
+      origins = (own-pushed (length cs) h ∙ ap (λ (m : ℕ). padded maxChannels (ownPositions m)) n) i;
     }
 
 pub list-count : (cs : List Channel) → Lists.packed cs .count ≡ length cs
-unfolding Lists.packed
+unfolding Lists.holding
 list-count cs = refl

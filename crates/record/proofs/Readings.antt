@@ -57,7 +57,7 @@ module _ (bytes : List ℕ) (f : Record) (e : f ≡ readOf bytes) where
     read-judged = rw (version-is, list-is, steps-is) (none-refused (formOf bytes .answer) _ read-zero .1)
 
     pub list-back : channels (f .list) ≡ formOf bytes .channels
-    unfolding Lists.packed
+    unfolding Lists.holding
     list-back =
         ap channels list-is
         ∙ channels-packed (formOf bytes .channels) (omega (arith, ap (λ (x : ChannelList). x .count) list-is, judged-counts (f .version) (f .list) (f .steps) read-judged .0))

@@ -23,7 +23,7 @@ use Rattle.record.proofs.ReadWritten.{read-written}
 
 module _ (version : ℕ) (cs : List Channel) (ss : List Step) (ok : judgePlan version (Lists.packed cs) (S.packed ss) ≡ 0) where
   same-channels : channels (Lists.packed cs) ≡ cs
-  unfolding Lists.packed
+  unfolding Lists.holding
   same-channels = channels-packed cs (judged-counts version (Lists.packed cs) (S.packed ss) ok .0)
 
   same-steps : steps (S.packed ss) ≡ ss

@@ -1,4 +1,4 @@
--- A channel added to the flat arrays of a list, for the contract of the function that does it. Definitions only.
+-- A channel added to the flat arrays of a list, with its own position as its origin, for the contract of the function that does it. Definitions only.
 use Prim.Native.Nat.{_+_}
 use lib.ListN.{set}
 use Rattle.channel.specs.declared.Channel.{Channel}
@@ -12,4 +12,5 @@ withChannel l c =
       heights = set (l .heights) (l .count) (c .height);
       hshifts = set (l .hshifts) (l .count) (c .hshift);
       vshifts = set (l .vshifts) (l .count) (c .vshift);
+      origins = set (l .origins) (l .count) (l .count);
     }

@@ -15,7 +15,7 @@ use Rattle.list.specs.Questions.{ask}
 use Rattle.plan.specs.declared.Steps.{Steps}
 use Rattle.plan.specs.Steps as S
 use Rattle.plan.specs.Steps.{steps}
-use Rattle.plan.specs.Plans.{meant, steppedAll, judgePlan}
+use Rattle.plan.specs.Plans.{meant, steppedAll, originsLeft, judgePlan}
 use Rattle.record.specs.declared.Record.{Record}
 use Rattle.record.specs.declared.Written.{Written}
 use Rattle.record.specs.Bytes.{recordOf}
@@ -50,6 +50,10 @@ stepsOf bytes = meant (versionOf bytes) (formOf bytes .steps) (channelsOf bytes)
 
 abbrev pub reachedOf : List ℕ → List Channel
 reachedOf bytes = steppedAll (stepsOf bytes) (channelsOf bytes)
+
+-- A.4: for each channel of that list the one of the record's list that it was made from
+abbrev pub originsOf : List ℕ → List ℕ
+originsOf bytes = originsLeft (stepsOf bytes) (channelsOf bytes)
 
 -- ---- the writer: questions 3 to 11, then 14: "a slice for the record at least the bytes needed"
 abbrev pub recordFor : ℕ → ChannelList → Steps → List ℕ

@@ -221,7 +221,7 @@ fn judge_field(bytes: &[u8], channels: usize, metas: bool, steps: usize) -> u32
     REFUSED_FIELD
 }
 
-// The list with one channel more.
+// The list with one channel more, its own position as its origin.
 fn with_channel(list: ChannelList, c: Channel) -> ChannelList
     requires { ⌜ list .count < maxChannels ⌝ }
     ensures { λ r. ⌜ r ≡ withChannel list c ⌝ }
@@ -232,6 +232,7 @@ fn with_channel(list: ChannelList, c: Channel) -> ChannelList
     next.heights[k] = c.height;
     next.hshifts[k] = c.hshift;
     next.vshifts[k] = c.vshift;
+    next.origins[k] = k as u8;
     next.count = k + 1;
     next
 }

@@ -24,17 +24,20 @@ element-write-hshifts c = search needs
 element-write-vshifts : tie.Need-element-write-vshifts
 element-write-vshifts c = search needs
 
+element-write-origins : tie.Need-element-write-origins
+element-write-origins c = search needs
+
 returns : tie.Need-returns
 unfolding Lists.stored
 returns c =
     let t = lt-ltb (c .before .args .k) maxChannels (c .if1 .taken) in
-    (rw t, rw t, rw t, rw t)
+    (rw t, rw t, rw t, rw t, rw t)
 
 returns-2 : tie.Need-returns-2
 unfolding Lists.stored
 returns-2 c =
     let t = le-ltb (c .before .args .k) maxChannels (c .if1 .left) in
-    (rw t, rw t, rw t, rw t)
+    (rw t, rw t, rw t, rw t, rw t)
 
 pub store-spec : {M : Type 1} → statement M
 store-spec =
@@ -46,5 +49,6 @@ store-spec =
     element-write-heights
     element-write-hshifts
     element-write-vshifts
+    element-write-origins
     returns
     returns-2)

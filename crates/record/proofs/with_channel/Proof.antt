@@ -23,6 +23,12 @@ element-write-next-3 c = search needs
 element-write-next-4 : tie.Need-element-write-next-4
 element-write-next-4 c = search needs
 
+cast-next : tie.Need-cast-next
+cast-next c = search needs
+
+element-write-next-5 : tie.Need-element-write-next-5
+element-write-next-5 c = search needs
+
 add-next : tie.Need-add-next
 add-next c = search needs
 
@@ -40,5 +46,7 @@ with-channel-spec =
     element-write-next-2
     element-write-next-3
     element-write-next-4
+    cast-next
+    element-write-next-5
     add-next
     returns)

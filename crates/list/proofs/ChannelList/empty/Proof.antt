@@ -1,11 +1,11 @@
 -- `empty` meets its contract, by computation. Assumes nothing.
 use mathlib.Core.Path.{refl}
-use Rattle.list.specs.Lists.{packed}
+use Rattle.list.specs.Lists.{holding}
 use Rattle.list.proofs.ChannelList.empty.Statement.{statement}
 use Rattle.list.proofs.ChannelList.empty.Tie as tie
 
 returns : tie.Need-returns
-unfolding packed
+unfolding holding
 returns c = refl
 
 pub empty-spec : {M : Type 1} → statement M

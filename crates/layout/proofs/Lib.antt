@@ -1,0 +1,4 @@
+pub mod Fronts
+pub mod Outcomes
+pub mod Read
+pub mod Back

@@ -1,0 +1,4 @@
+pub mod Kept
+pub mod Totals
+pub mod Firsts
+pub mod Whole
