@@ -12,6 +12,23 @@
 #define HEIGHT 9
 #define SAMPLES (WIDTH * HEIGHT)
 
+/* Prints which picture channel the last channel of the pyramid refines; gives the
+   answer. */
+static uint32_t print_last(const uint8_t *record, size_t bytes)
+{
+    static uint32_t counts[4], steps[192], channels[1024], origins[256];
+    uint32_t answer, last;
+
+    answer = squeeze_layout(record, bytes, counts, 4, steps, 192, channels, 1024,
+                            origins, 256);
+    if (answer == 0) {
+        last = counts[2] - 1;
+        printf("channel %u refines picture channel %u\n", (unsigned)last,
+               (unsigned)origins[last]);
+    }
+    return answer;
+}
+
 int main(void)
 {
     /* One channel, 20 by 9, shifts 0, and no steps: version 1's default plan. */
@@ -29,9 +46,11 @@ int main(void)
         answer = squeeze_listing(record, bytes, text, sizeof text, &length, 1);
     if (answer == 0) {
         fwrite(text, 1, length, stdout);
+        answer = print_last(record, bytes);
+    }
+    if (answer == 0)
         answer = squeeze_write(record, bytes, picture, SAMPLES, pyramid, SAMPLES,
                                work, SAMPLES);
-    }
     if (answer == 0)
         answer = squeeze_rebuild(record, bytes, pyramid, SAMPLES, back, SAMPLES,
                                  work, SAMPLES);

@@ -83,6 +83,24 @@ uint32_t squeeze_listing(const uint8_t *record, size_t record_len,
                          uint8_t *text, size_t text_len,
                          uint32_t *length, size_t length_len);
 
+/* The layout of a record as numbers, and the origin of each of its channels: the
+   position, in the record's list, of the picture channel that it was made from. A
+   depot that gets a residual late, with origin 2, knows that it refines picture
+   channel 2, counted from 0. The first channel with an origin holds the averages
+   of that picture channel, or all of it if no step squeezes it; the others refine
+   it. counts: four numbers, version, number of steps, number of channels, coarse
+   count as in the listing. steps: the steps that are meant, the default plan's
+   where the record has none; channels: those that the plan leaves; both as for
+   squeeze_record, three numbers a step and four a channel. origins: one number a
+   channel. The numbers go over the fronts of their slices (4, 192, 1,024 and 256
+   hold every layout); what is past them stays. A slice too short: refused with
+   12. */
+uint32_t squeeze_layout(const uint8_t *record, size_t record_len,
+                        uint32_t *counts, size_t counts_len,
+                        uint32_t *steps, size_t steps_len,
+                        uint32_t *channels, size_t channels_len,
+                        uint32_t *origins, size_t origins_len);
+
 /* Writes a record, if its channels and its plan are such as the other functions
    take. version: the plan version, 1 or 2; any other number is refused with 4.
    The parameter is new: a caller from before there were versions gives 1, and

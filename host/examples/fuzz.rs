@@ -3,7 +3,8 @@
 //!
 //! `cargo run --release --example fuzz -- [COUNT [SEED]]`; 1,000,000 calls with
 //! seed 1 if not given. Exit status 1 if anything differs, if a function never gave
-//! an answer that it can give, or if strips or versions weren't met in all their ways.
+//! an answer that it can give, or if strips, versions or origins weren't met in all
+//! their ways.
 
 use squeeze_compare::fuzz::{run, Report, ANSWERS, FUNCTIONS};
 
@@ -22,9 +23,11 @@ fn main() {
     print(&report, count, seed);
     let missing = report.never_met();
     let (strips, versions) = (report.strips.never_met(), report.versions.never_met());
-    let all_met = missing.is_empty() && strips.is_empty() && versions.is_empty();
+    let origins = report.origins.never_met();
+    let all_met =
+        missing.is_empty() && strips.is_empty() && versions.is_empty() && origins.is_empty();
     if !all_met {
-        println!("never met: {missing:?} {strips:?} {versions:?}");
+        println!("never met: {missing:?} {strips:?} {versions:?} {origins:?}");
     }
     if !all_met || !report.differences.is_empty() {
         std::process::exit(1);
@@ -54,6 +57,8 @@ fn print(report: &Report, count: u64, seed: u64) {
     report.strips.print();
     println!("versions: how often each way was met");
     report.versions.print();
+    println!("origins: how often each way was met");
+    report.origins.print();
     println!("differences: {}", report.differences.len());
     for text in &report.differences {
         println!("{text}");

@@ -24,6 +24,12 @@ fn main() -> Result<(), Refusal> {
         layout.samples()
     );
 
+    // A channel that comes late: which channel of the picture it refines.
+    let last = layout.channels.len() - 1;
+    if let Some(refined) = layout.refines(last) {
+        println!("channel {last} refines picture channel {refined}");
+    }
+
     // The depot rebuilds.
     let back = rebuild_picture(record.bytes(), &pyramid)?;
     assert!(back == picture, "the picture came back changed");

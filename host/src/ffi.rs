@@ -1,4 +1,4 @@
-//! The six functions of `include/squeeze.h`. Each asks for aligned pointers and
+//! The seven functions of `include/squeeze.h`. Each asks for aligned pointers and
 //! for slices that don't overlap, an empty slice for any pointer, null among
 //! them; nothing else. Each answers 0 or the number of a refusal. Public for the
 //! comparisons, which pass what the safe functions can't express.
@@ -53,6 +53,19 @@ extern "C" {
         text_len: usize,
         length: *mut u32,
         length_len: usize,
+    ) -> u32;
+
+    pub fn squeeze_layout(
+        record: *const u8,
+        record_len: usize,
+        counts: *mut u32,
+        counts_len: usize,
+        steps: *mut u32,
+        steps_len: usize,
+        channels: *mut u32,
+        channels_len: usize,
+        origins: *mut u32,
+        origins_len: usize,
     ) -> u32;
 
     pub fn squeeze_record(

@@ -26,6 +26,9 @@
 //! place of `Record::new()` has the plan for larger screens ([`Version`]); every call
 //! follows the version that its record says.
 //!
+//! [`layout`](fn@layout) tells what a record means: its steps, the channels of its
+//! pyramid, and which channel of the picture each of them refines.
+//!
 //! The core takes any record, any sizes and any slices; what it can't use it
 //! refuses with a reason, and then the slices keep their contents. No call needs
 //! more than 64 KiB of stack.
@@ -39,7 +42,7 @@ mod record;
 mod refusal;
 mod tile;
 
-pub use layout::{Channel, Layout, Step, Version};
+pub use layout::{layout, layout_numbers, Channel, Layout, Step, Version, LAYOUT_ROOM};
 pub use record::{write_record, Record, RECORD_ROOM};
 pub use refusal::Refusal;
 pub use tile::{grid_rect, tile, GridQuery, Kind, Rect, Size, TileSizes};
@@ -130,24 +133,6 @@ pub fn listing(record: &[u8]) -> Result<String, Refusal> {
     assert!(length <= LISTING_ROOM, "a listing of {length} bytes");
     text.truncate(length);
     Ok(String::from_utf8(text).expect("a listing is plain text"))
-}
-
-/// The listing of a record, taken apart, and the record's version beside it.
-///
-/// ```
-/// use squeeze::{layout, Record, Refusal, Version};
-///
-/// let record = Record::under(Version::HOUSE).channel(40, 20).checked()?;
-/// let layout = layout(record.bytes())?;
-/// assert_eq!((layout.version, layout.steps.len()), (Version::HOUSE, 1));
-/// # Ok::<(), Refusal>(())
-/// ```
-pub fn layout(record: &[u8]) -> Result<Layout, Refusal> {
-    let text = listing(record)?;
-    match layout::parse(&text, record::version(record)) {
-        Some(layout) => Ok(layout),
-        None => panic!("the core gave this listing: {text:?}"),
-    }
 }
 
 fn answer(number: u32) -> Result<(), Refusal> {

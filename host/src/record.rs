@@ -1,6 +1,6 @@
 //! Records: checked by the core's own writer, or only encoded.
 
-use crate::layout::{Channel, Step, Version};
+use crate::layout::{Channel, Step, Version, META};
 use crate::{answer, ffi, Refusal};
 
 /// The bytes that hold every record that the core accepts: a version, 256 channels,
@@ -11,13 +11,8 @@ const VERSION_BYTES: usize = 3 + 1;
 const STRIP_BYTES: usize = 3 + 10;
 const STEP_BYTES: usize = 3 + 5;
 
-/// Both shifts of a meta channel.
-const META: u8 = 255;
-
 /// The longest side under tag 1.
 const SHORT_SIDE: u32 = 65_535;
-
-const VERSION_TAG: u8 = 4;
 
 /// The bytes that describe a picture's channels and its plan. A program that
 /// makes records ends with [`checked`](Record::checked), or begins with
@@ -148,12 +143,7 @@ impl Record {
 
     /// Adds a channel with a horizontal and a vertical shift.
     pub fn shifted_channel(self, width: u32, height: u32, hshift: u8, vshift: u8) -> Record {
-        let shifts = Some((hshift, vshift)).filter(|&shifts| shifts != (META, META));
-        self.add_channel(Channel {
-            width,
-            height,
-            shifts,
-        })
+        self.add_channel(Channel::shifted(width, height, hshift, vshift))
     }
 
     /// Adds a meta channel.
@@ -190,19 +180,11 @@ impl Record {
     }
 }
 
-/// The version that an accepted record says.
-pub(crate) fn version(record: &[u8]) -> Version {
-    match record {
-        [VERSION_TAG, _, _, number, ..] => Version(*number),
-        _ => Version::STANDARD,
-    }
-}
-
 /// The field of a version; nothing for version 1.
 fn version_field(version: Version) -> Vec<u8> {
     match version {
         Version::STANDARD => vec![],
-        Version(number) => vec![VERSION_TAG, 1, 0, number],
+        Version(number) => vec![4, 1, 0, number],
     }
 }
 

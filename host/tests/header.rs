@@ -79,7 +79,7 @@ fn rust_functions(text: &str) -> Vec<Function> {
 #[test]
 fn declarations_agree() {
     let header = header_functions();
-    assert_eq!(header.len(), 6, "{header:?}");
+    assert_eq!(header.len(), 7, "{header:?}");
     // Every function answers a number.
     assert!(header.iter().all(|(_, _, result)| result == "u32"));
     assert_eq!(rust_functions(include_str!("../src/ffi.rs")), header);
@@ -88,8 +88,11 @@ fn declarations_agree() {
 /// The room that the header promises is the crate's.
 #[test]
 fn rooms_agree() {
-    assert!(HEADER.contains("3,844 hold every record") && squeeze::RECORD_ROOM == 3_844);
-    assert!(HEADER.contains("8,192 bytes hold every listing") && squeeze::LISTING_ROOM == 8_192);
+    let text = HEADER.split_whitespace().collect::<Vec<_>>().join(" ");
+    assert!(text.contains("3,844 hold every record") && squeeze::RECORD_ROOM == 3_844);
+    assert!(text.contains("8,192 bytes hold every listing") && squeeze::LISTING_ROOM == 8_192);
+    assert!(text.contains("4, 192, 1,024 and 256 hold every layout"));
+    assert_eq!(squeeze::LAYOUT_ROOM, [4, 192, 1_024, 256]);
 }
 
 #[test]
@@ -115,8 +118,7 @@ fn c_example() {
     let text = String::from_utf8_lossy(&ran.stdout).into_owned();
     assert!(ran.status.success(), "{text}");
     let listing = squeeze::listing(&[1, 6, 0, 20, 0, 9, 0, 0, 0]).unwrap();
-    assert_eq!(
-        text,
-        format!("{listing}the picture came back, all 180 samples equal\n")
-    );
+    let refined = "channel 3 refines picture channel 0\n";
+    let back = "the picture came back, all 180 samples equal\n";
+    assert_eq!(text, format!("{listing}{refined}{back}"));
 }

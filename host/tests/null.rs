@@ -158,6 +158,47 @@ fn listing() {
 }
 
 #[test]
+fn layout() {
+    let step = [RECORD, &[2, 5, 0, 1, 0, 0, 1, 0]].concat();
+    let cases = [
+        (&[][..], [0, 0, 0, 0], 3, "nothing at all"),
+        (&[], [4, 3, 8, 2], 3, "no record"),
+        (RECORD, [0, 0, 0, 0], 12, "no slices"),
+        (RECORD, [4, 0, 4, 1], 0, "no step, and none for steps"),
+        (RECORD, [0, 3, 4, 1], 12, "no counts"),
+        (RECORD, [4, 3, 0, 1], 12, "no channels"),
+        (RECORD, [4, 3, 4, 0], 12, "no origins"),
+        (&step, [4, 0, 8, 2], 12, "a step, and none for steps"),
+        (&step, [4, 3, 8, 2], 0, "a step"),
+    ];
+    for (record, lengths, expected, why) in cases {
+        for nulls in 0..32 {
+            let mut record = record.to_vec();
+            let [mut counts, mut steps, mut channels, mut origins] = lengths.map(|n| vec![77; n]);
+            // SAFETY: as above.
+            let answer = unsafe {
+                ffi::squeeze_layout(
+                    at(&mut record, nulls, 0),
+                    record.len(),
+                    at(&mut counts, nulls, 1),
+                    counts.len(),
+                    at(&mut steps, nulls, 2),
+                    steps.len(),
+                    at(&mut channels, nulls, 3),
+                    channels.len(),
+                    at(&mut origins, nulls, 4),
+                    origins.len(),
+                )
+            };
+            assert_eq!(answer, expected, "{why}, nulls {nulls:05b}");
+            let numbers = [counts, steps, channels, origins].concat();
+            let kept = numbers.iter().all(|&n| n == 77);
+            assert_eq!(kept, expected != 0, "{why}, nulls {nulls:05b}");
+        }
+    }
+}
+
+#[test]
 fn record() {
     let (one, step) = (&[9, 9, 0, 0][..], &[1, 0, 1][..]);
     let cases = [

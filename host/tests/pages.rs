@@ -6,8 +6,8 @@
 use squeeze::{Size, TileSizes};
 use squeeze_compare::parts::{self, Parts};
 use squeeze_compare::random::Random;
-use squeeze_compare::{number, raw, records, rects, Tally};
-use squeeze_model::{list, listing, record, record_writer, run, tile};
+use squeeze_compare::{layouts, number, raw, records, rects, Tally};
+use squeeze_model::{layout, list, listing, record, record_writer, run, tile};
 use std::ffi::c_void;
 use std::ptr;
 
@@ -114,6 +114,32 @@ fn listings() {
         assert_eq!(answer, expected, "{bytes:02x?}");
         assert!(text == model_text && length == model_length);
         tally.add(answer);
+    }
+    assert_eq!(tally.met(), (0..13).collect::<Vec<_>>());
+}
+
+/// Each slice of just its length, or one of them a number too short.
+#[test]
+fn layouts() {
+    let (mut random, mut tally) = (Random::new(96), Tally::default());
+    let [mut f0, mut f1, mut f2, mut f3, mut f4] = fences();
+    for k in 0..20_000 {
+        let end = k % 2 == 0;
+        let bytes = records::some(&mut random);
+        let mut room = layouts::need(&bytes);
+        let short = random.below(4);
+        room[short] = room[short].saturating_sub(random.below(2));
+        let mut model = room.map(|numbers| vec![7; numbers]);
+        let counts = f1.lend(&model[0], end);
+        let steps = f2.lend(&model[1], end);
+        let channels = f3.lend(&model[2], end);
+        let origins = f4.lend(&model[3], end);
+        let record = f0.lend(&bytes, end);
+        let answer = squeeze::layout_numbers(record, counts, steps, channels, origins);
+        let expected = layout::layout(&bytes, model.each_mut().map(Vec::as_mut_slice));
+        assert_eq!(number(&answer), expected, "{bytes:02x?}");
+        assert!([counts, steps, channels, origins] == model);
+        tally.add(expected);
     }
     assert_eq!(tally.met(), (0..13).collect::<Vec<_>>());
 }

@@ -192,6 +192,7 @@ fn palettes_are_not_shown() {
         let seats = coarse::shown(record.bytes(), &pyramid, channels, 255).unwrap();
         assert_eq!(seats.picture, alone.picture);
         assert_eq!(seats.arrived, 306 + alone.arrived);
+        assert_eq!(seats.to_come, [&[0, 0], &alone.to_come[..]].concat());
     }
 }
 
@@ -236,13 +237,27 @@ fn the_command() {
     let (input, output) = (place("pass.ppm"), place("pass-small.ppm"));
     fs::write(&input, pnm::format(&picture(100, 60, 3, 255))).unwrap();
     let text = run(&[&input, &output, Path::new("3")]).unwrap();
-    assert_eq!(text, "7 by 8 samples from the first 88 of 18000");
+    assert_eq!(
+        text,
+        "7 by 8 samples from the first 88 of 18000\n\
+         refinements to come: 7 for channel 0, 9 for channel 1, 9 for channel 2"
+    );
     let small = pnm::parse(&fs::read(&output).unwrap()).unwrap();
     assert_eq!((small.width, small.height, small.channels), (21, 24, 3));
     let text = run(&[&input, &output, Path::new("1"), Path::new("2")]).unwrap();
-    assert_eq!(text, "25 by 30 samples from the first 2250 of 18000");
+    assert_eq!(
+        text,
+        "25 by 30 samples from the first 2250 of 18000\n\
+         refinements to come: 3 for channel 0, 3 for channel 1, 3 for channel 2"
+    );
     let small = pnm::parse(&fs::read(&output).unwrap()).unwrap();
     assert_eq!((small.width, small.height, small.channels), (25, 30, 3));
+    fs::write(&input, pnm::format(&picture(8, 5, 1, 255))).unwrap();
+    let text = run(&[&input, &output]).unwrap();
+    assert_eq!(
+        text,
+        "8 by 5 samples from the first 40 of 40\nno refinement is to come"
+    );
 }
 
 #[test]
@@ -295,7 +310,10 @@ fn the_program() {
     };
     let good = call(&[&input, &output]);
     assert!(good.status.success() && good.stderr.is_empty());
-    assert_eq!(good.stdout, b"8 by 5 samples from the first 40 of 600\n");
+    assert_eq!(
+        good.stdout,
+        b"8 by 5 samples from the first 40 of 600\nrefinements to come: 4 for channel 0\n"
+    );
     fs::remove_file(&output).unwrap();
     fs::write(&input, b"P5 30 20 255\n").unwrap();
     let bad = call(&[&input, &output]);

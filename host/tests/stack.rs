@@ -96,7 +96,15 @@ impl Painted {
 }
 
 /// The exported functions.
-const FUNCTIONS: [&str; 6] = ["rebuild", "write", "listing", "record", "tile", "grid_rect"];
+const FUNCTIONS: [&str; 7] = [
+    "rebuild",
+    "write",
+    "listing",
+    "layout",
+    "record",
+    "tile",
+    "grid_rect",
+];
 
 /// A record, and the slices of every call.
 struct Calls<'a> {
@@ -107,6 +115,7 @@ struct Calls<'a> {
     work: Vec<i32>,
     text: Vec<u8>,
     length: [u32; 1],
+    numbers: [Vec<u32>; 4],
 }
 
 impl Calls<'_> {
@@ -129,6 +138,7 @@ impl Calls<'_> {
             work: vec![2; samples],
             text: vec![3; squeeze::LISTING_ROOM],
             length: [4],
+            numbers: squeeze::LAYOUT_ROOM.map(|room| vec![5; room]),
         }
     }
 
@@ -142,10 +152,15 @@ impl Calls<'_> {
         } = self;
         let (output, work) = (&mut self.output, &mut self.work);
         let (text, length) = (&mut self.text, &mut self.length);
+        let [counts, steps, channels, origins] = &mut self.numbers;
         match function {
             "rebuild" => number(&squeeze::rebuild(record, input, output, work)),
             "write" => number(&squeeze::write(record, input, output, work)),
             "listing" => raw::listing(record, text, length),
+            "layout" => {
+                let layout = squeeze::layout_numbers(record, counts, steps, channels, origins);
+                number(&layout)
+            }
             "record" => raw::record(parts.version, &parts.channels, &parts.steps, text, length),
             "tile" => tiles(),
             _ => rectangle(),

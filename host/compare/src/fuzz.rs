@@ -4,17 +4,18 @@ use crate::random::Random;
 use crate::runs::Run;
 use crate::tiles::Tile;
 use crate::ways::Ways;
-use crate::{lists, parts, records, rects, strips, versions};
+use crate::{layouts, lists, origins, parts, records, rects, strips, versions};
 use squeeze::{GridQuery, Kind, LISTING_ROOM, RECORD_ROOM};
 use squeeze_model::{list, listing, record};
 
 /// The exported functions, in the order of the report's rows, and the answers
 /// that each can give.
-pub const FUNCTIONS: [(&str, &[usize]); 6] = [
+pub const FUNCTIONS: [(&str, &[usize]); 7] = [
     ("rebuild", &[0, 1, 2, 3, 4, 5, 6, 7, 8, 9, 10, 11, 12]),
     ("write", &[0, 1, 2, 3, 4, 5, 6, 7, 8, 9, 10, 11, 12]),
     ("tile", &[0, 5, 12, 13]),
     ("listing", &[0, 1, 2, 3, 4, 5, 6, 7, 8, 9, 10, 11, 12]),
+    ("layout", &[0, 1, 2, 3, 4, 5, 6, 7, 8, 9, 10, 11, 12]),
     ("record", &[0, 3, 4, 5, 6, 7, 8, 9, 10, 11, 12]),
     ("grid_rect", &[0, 4, 12, 14]),
 ];
@@ -22,12 +23,14 @@ pub const FUNCTIONS: [(&str, &[usize]); 6] = [
 /// Answers 0 to 14.
 pub const ANSWERS: usize = 15;
 
-/// The answer of a call, and the ways in which it met a strip and a version, if it
-/// did.
+/// The answer of a call, and the ways in which it met a strip, a version and origins,
+/// if it did.
+#[derive(Default)]
 struct Met {
     answer: u32,
     strip: Option<strips::Way>,
     version: Option<versions::Way>,
+    origins: Vec<origins::Way>,
 }
 
 /// What was met, or what differs.
@@ -41,6 +44,8 @@ pub struct Report {
     pub strips: Ways<strips::Way>,
     /// How often versions were.
     pub versions: Ways<versions::Way>,
+    /// How often origins were.
+    pub origins: Ways<origins::Way>,
     /// The first differences found.
     pub differences: Vec<String>,
 }
@@ -51,6 +56,7 @@ impl Report {
             met: Default::default(),
             strips: Ways::new(&strips::WAYS),
             versions: Ways::new(&versions::WAYS),
+            origins: Ways::new(&origins::WAYS),
             differences: vec![],
         }
     }
@@ -71,6 +77,7 @@ impl Report {
                 self.met[function][met.answer as usize] += 1;
                 self.strips.add(met.strip);
                 self.versions.add(met.version);
+                self.origins.add(met.origins);
             }
             Err(text) => self.differences.push(text),
         }
@@ -82,13 +89,14 @@ pub fn run(count: u64, seed: u64) -> Report {
     let mut random = Random::new(seed);
     let mut report = Report::new();
     for _ in 0..count {
-        match random.below(10) {
+        match random.below(11) {
             0..=1 => report.add(0, whole_run(&mut random, true)),
             2..=3 => report.add(1, whole_run(&mut random, false)),
             4..=5 => report.add(2, tile(&mut random)),
             6 => report.add(3, listing_text(&mut random)),
-            7..=8 => report.add(4, record_of_numbers(&mut random)),
-            _ => report.add(5, grid_rect(&mut random)),
+            7 => report.add(4, layout(&mut random)),
+            8..=9 => report.add(5, record_of_numbers(&mut random)),
+            _ => report.add(6, grid_rect(&mut random)),
         }
         if report.differences.len() == 10 {
             break;
@@ -132,6 +140,7 @@ fn whole_run(random: &mut Random, back: bool) -> Call {
         answer,
         strip: strips::of_run(&run, answer),
         version: versions::of_record(&bytes, answer),
+        ..Met::default()
     })
 }
 
@@ -202,7 +211,7 @@ fn tile(random: &mut Random) -> Call {
     Ok(Met {
         answer,
         strip: strips::of_tile(&sizes, answer),
-        version: None,
+        ..Met::default()
     })
 }
 
@@ -249,6 +258,25 @@ fn listing_text(random: &mut Random) -> Call {
         answer,
         strip: strips::of_record(&bytes, answer),
         version: versions::of_record(&bytes, answer),
+        ..Met::default()
+    })
+}
+
+fn layout(random: &mut Random) -> Call {
+    let bytes = match random.below(8) {
+        0 => records::doubled(random),
+        1..=2 => records::ordinary(random),
+        _ => records::some(random),
+    };
+    layouts::compare(&bytes)?;
+    let need = layouts::need(&bytes);
+    let room = random.pick(&layouts::rooms(need));
+    let answer = layouts::compare_room(&bytes, room)?;
+    Ok(Met {
+        answer,
+        strip: strips::of_record(&bytes, answer),
+        version: versions::of_record(&bytes, answer),
+        origins: origins::of_layout(&bytes, need, room, answer),
     })
 }
 
@@ -270,6 +298,7 @@ fn record_of_numbers(random: &mut Random) -> Call {
         answer,
         strip: strips::of_parts(&parts, answer),
         version: versions::of_parts(&parts, answer),
+        ..Met::default()
     })
 }
 
@@ -305,6 +334,6 @@ fn grid_rect(random: &mut Random) -> Call {
     Ok(Met {
         answer,
         strip: strips::of_rect(&query, answer),
-        version: None,
+        ..Met::default()
     })
 }

@@ -8,7 +8,9 @@
 
 pub mod fuzz;
 mod guard;
+pub mod layouts;
 pub mod lists;
+pub mod origins;
 pub mod parts;
 pub mod random;
 pub mod raw;

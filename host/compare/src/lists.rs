@@ -1,10 +1,9 @@
 //! Listings, compared.
 
 use crate::guard::Lent;
-use crate::{expect, raw};
-use squeeze_model::list::{Channel, Step};
-use squeeze_model::plan::Plan;
-use squeeze_model::{listing, record};
+use crate::{expect, layouts, raw};
+use squeeze_model::list::Step;
+use squeeze_model::listing;
 
 /// The listing of a record with room for 8,192 bytes, and its layout. Gives the
 /// answer, 0 or a refusal's number.
@@ -15,21 +14,7 @@ pub fn compare(bytes: &[u8]) -> Result<u32, String> {
     expect(ours == model && lent.holds(bytes), || {
         format!("listing: record {bytes:02x?}\ncore: {ours:?}\nmodel: {model:?}")
     })?;
-    compare_layout(bytes)
-}
-
-/// The parsed listing against the model's plan.
-fn compare_layout(bytes: &[u8]) -> Result<u32, String> {
-    let (ours, model) = (squeeze::layout(bytes), record::judge(bytes));
-    let same = match (&ours, &model) {
-        (Ok(layout), Ok(plan)) => *layout == as_layout(plan),
-        (Err(refusal), Err(number)) => refusal.number() == *number,
-        _ => false,
-    };
-    expect(same, || {
-        format!("layout: core {ours:?}, model {model:?}; record {bytes:02x?}")
-    })?;
-    Ok(model.err().unwrap_or(0))
+    layouts::compare(bytes)
 }
 
 /// A step in the model's form.
@@ -39,26 +24,6 @@ pub fn model_step(step: &squeeze::Step) -> Step {
         in_place: step.in_place,
         first: step.first.into(),
         number: step.number.into(),
-    }
-}
-
-fn as_layout(plan: &Plan) -> squeeze::Layout {
-    let step = |s: &Step| squeeze::Step {
-        horizontal: s.horizontal,
-        in_place: s.in_place,
-        first: s.first.try_into().expect("from a record"),
-        number: s.number.try_into().expect("from a record"),
-    };
-    let channel = |c: &Channel| squeeze::Channel {
-        width: c.width,
-        height: c.height,
-        shifts: c.shifts,
-    };
-    squeeze::Layout {
-        version: squeeze::Version(plan.version.number() as u8),
-        steps: plan.steps.iter().map(step).collect(),
-        channels: plan.layout().iter().map(channel).collect(),
-        coarse: plan.coarse(),
     }
 }
 

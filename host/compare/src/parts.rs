@@ -22,21 +22,11 @@ impl Parts {
     /// The numbers of a record of good form.
     pub fn of_record(bytes: &[u8]) -> Option<Parts> {
         let record = record::read(bytes).ok()?;
-        let mut parts = Parts {
+        Some(Parts {
             version: record.version.number(),
-            channels: vec![],
-            steps: vec![],
-        };
-        for c in &record.channels {
-            let (h, v) = c.shifts.unwrap_or((255, 255));
-            let numbers = [c.width, c.height, h.into(), v.into()];
-            parts.channels.extend_from_slice(&numbers);
-        }
-        for s in &record.steps {
-            let flags = u32::from(s.horizontal) + 2 * u32::from(s.in_place);
-            parts.steps.extend_from_slice(&[flags, s.first, s.number]);
-        }
-        Some(parts)
+            channels: record.channels.iter().flat_map(|c| c.numbers()).collect(),
+            steps: record.steps.iter().flat_map(|s| s.numbers()).collect(),
+        })
     }
 
     /// How many bytes the record of the whole groups has.

@@ -159,6 +159,27 @@ fn many_channels(random: &mut Random) -> Vec<u8> {
     record.bytes().to_vec()
 }
 
+/// 64 or 128 channels, and steps on many of them that leave 256, residuals squeezed
+/// too: all in place, none, or some.
+pub fn doubled(random: &mut Random) -> Vec<u8> {
+    let mut count = random.pick(&[64, 128]);
+    let place = random.below(3);
+    // Six steps on sides of 64 leave no side empty.
+    let like = random.pick(&[64, 65, 100]);
+    let mut record = (0..count).fold(Record::new(), |record, _| record.channel(like, 64));
+    while count < 256 {
+        let number = random.pick(&[32, 64, 128]).min(count).min(256 - count);
+        record = record.step(Step {
+            horizontal: random.once_in(2),
+            in_place: place == 0 || (place == 2 && random.once_in(2)),
+            first: random.below(count - number + 1) as u16,
+            number: number as u16,
+        });
+        count += number;
+    }
+    record.bytes().to_vec()
+}
+
 /// 63 to 66 steps, on sides that become 1 or 0.
 fn many_steps(random: &mut Random) -> Vec<u8> {
     let number = random.pick(&[62, 63, 64, 65, 66]);

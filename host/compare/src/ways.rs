@@ -18,9 +18,9 @@ impl<W: Copy + PartialEq> Ways<W> {
         }
     }
 
-    /// Counts a way, if it is one.
-    pub fn add(&mut self, way: Option<W>) {
-        if let Some(way) = way {
+    /// Counts the ways of a call.
+    pub fn add(&mut self, ways: impl IntoIterator<Item = W>) {
+        for way in ways {
             let at = self.known.iter().position(|known| known.0 == way);
             self.times[at.expect("every way is listed")] += 1;
         }

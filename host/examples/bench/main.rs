@@ -1,12 +1,13 @@
 //! Times the core against the plain Rust of `model/`, against a copy of as many
 //! samples, and whole runs against an earlier commit's archive where there is one
-//! (`bench/runs.sh`).
+//! (`bench/runs.sh`); and layouts against plain Rust.
 //!
 //! `cargo run --release --example bench -- [SECONDS]` spends about so many
 //! seconds on each row (2 if not given).
 
 mod before;
 mod clock;
+mod layouts;
 mod plans;
 
 use clock::{now, CLOCK};
@@ -83,6 +84,8 @@ fn main() {
     print_ratios(&rows);
     print_strips(&rows, &strips);
     print_beside(&rows, &beside);
+    let [small, .., pairs, doubled] = &runs;
+    layouts::print(&[small, pairs, doubled], budget);
 }
 
 /// The four rows of one picture size.

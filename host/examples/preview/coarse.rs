@@ -3,12 +3,15 @@
 use crate::pnm::Picture;
 use squeeze::{layout, write_pyramid, Channel, Record, Refusal, Version};
 
-/// A preview, and how many samples of the pyramid it took.
+/// A preview, how many samples of the pyramid it took, and what is still to come.
 pub struct Preview {
     /// As wide and high as the first channel's average.
     pub picture: Picture,
     /// Samples at the front of the pyramid, those of palettes among them.
     pub arrived: usize,
+    /// For each channel of the picture, palettes first, how many channels of the
+    /// pyramid refine it that the preview doesn't show.
+    pub to_come: Vec<usize>,
 }
 
 /// Squeezes a picture with the version's default plan. The front of its pyramid holds
@@ -34,7 +37,13 @@ pub fn shown(
     let start = layout.preview_samples().start;
     let arrived = start + averages.iter().map(Channel::samples).sum::<usize>();
     let picture = assemble(averages, &pyramid[start..arrived], maxval);
-    Ok(Preview { picture, arrived })
+    let shown = layout.metas() + channels;
+    let refine = |k: usize| layout.refinements(k).filter(|&at| at >= shown).count();
+    Ok(Preview {
+        picture,
+        arrived,
+        to_come: (0..layout.picture_channels()).map(refine).collect(),
+    })
 }
 
 /// One picture of averages. Version 1's default plan squeezes the second and third

@@ -7,7 +7,7 @@ use std::fs;
 /// The longest side of an enlarged preview.
 const MAX_SIDE: usize = 2048;
 
-/// Does what the arguments ask. Gives a line for the clerk, or why not; then no
+/// Does what the arguments ask. Gives two lines for the clerk, or why not; then no
 /// output file was made.
 pub fn run(words: &[String]) -> Result<String, String> {
     let (input, output, factor, version) = match words {
@@ -27,12 +27,27 @@ pub fn run(words: &[String]) -> Result<String, String> {
     let bytes = pnm::format(&preview.picture.enlarged(factor));
     fs::write(output, bytes).map_err(|error| format!("{output}: {error}"))?;
     Ok(format!(
-        "{} by {} samples from the first {} of {}",
+        "{} by {} samples from the first {} of {}\n{}",
         preview.picture.width,
         preview.picture.height,
         preview.arrived,
-        picture.samples.len()
+        picture.samples.len(),
+        to_come(&preview.to_come)
     ))
+}
+
+/// What the rest of the upload refines: how many residuals each channel.
+fn to_come(numbers: &[usize]) -> String {
+    let mut words = Vec::new();
+    for (channel, number) in numbers.iter().enumerate() {
+        if *number > 0 {
+            words.push(format!("{number} for channel {channel}"));
+        }
+    }
+    match &words[..] {
+        [] => "no refinement is to come".into(),
+        _ => format!("refinements to come: {}", words.join(", ")),
+    }
 }
 
 fn whole_number(word: &str, what: &str, most: usize) -> Result<usize, String> {

@@ -6,8 +6,10 @@
 #![warn(missing_docs)]
 
 pub mod forward;
+pub mod layout;
 pub mod list;
 pub mod listing;
+pub mod origins;
 pub mod pair;
 pub mod plan;
 pub mod record;

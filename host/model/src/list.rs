@@ -50,6 +50,14 @@ impl Channel {
         })
     }
 
+    /// Width, height and two shifts, both 255 for meta.
+    pub fn numbers(&self) -> [u32; 4] {
+        let (hshift, vshift) = self
+            .shifts
+            .map_or((META, META), |(h, v)| (h.into(), v.into()));
+        [self.width, self.height, hshift, vshift]
+    }
+
     /// Its sides as positions of a slice.
     pub fn size(&self) -> (usize, usize) {
         (self.width as usize, self.height as usize)
@@ -90,6 +98,12 @@ impl Channel {
 }
 
 impl Step {
+    /// Flags (1 for horizontal plus 2 for in place), first channel and number.
+    pub fn numbers(&self) -> [u32; 3] {
+        let flags = u32::from(self.horizontal) + 2 * u32::from(self.in_place);
+        [flags, self.first, self.number]
+    }
+
     /// Its range, as positions of a list that the step fits.
     pub fn range(&self) -> std::ops::Range<usize> {
         let first = self.first as usize;

@@ -1,8 +1,8 @@
 //! Plans: the default one, and the lists that a plan goes through.
 
 use crate::list::{check_total, coarse_count, take_step, Channel, Step};
-use crate::refusal;
 use crate::version::Version;
+use crate::{origins, refusal};
 
 /// The default plan, or refusal 11.
 pub fn default_plan(version: Version, list: &[Channel]) -> Result<Vec<Step>, u32> {
@@ -83,6 +83,15 @@ impl Plan {
     /// How many of its channels are coarse.
     pub fn coarse(&self) -> usize {
         coarse_count(self.layout(), self.version.side())
+    }
+
+    /// The origin of each of its channels.
+    pub fn origins(&self) -> Vec<usize> {
+        let mut origins = origins::own_positions(self.lists[0].len());
+        for step in &self.steps {
+            origins = origins::after_step(&origins, step);
+        }
+        origins
     }
 }
 
