@@ -9,29 +9,34 @@ true` or `false` of `is_meta_or_small(8)` (small.py makes these). A channel is `
 FIRST NUMBER`. Document 01 refuses some of what the Rust lets through: INSTEAD has every such difference. The other cases
 are made here by the papers' rules (rules.py), those that they name themselves as rows with the answer written out.
 
-The stream is numbers of four bytes, least byte first. A case is its source (1 the Rust and 2 the rules, both under
-version 1, 3 the rules under any version), its kind (1 to 5
-as below), how many numbers follow, and these:
+The stream has for each source and kind (SAYS) the number of its cases and the cases, and it is numbers of four bytes, least
+byte first. The sources are the Rust and the rules, both under version 1, the rules under any version, and lists that come
+with any origins. A case is its length in bytes, and by its kind
     step    list, step, answer, list afterwards if that is 0
     plan    version, list, plan, answer, list afterwards if that is 0
     default version, list, answer, plan
     coarse  version, list, answer, coarse count
     meant   version, list, plan, answer, plan that is meant
 where
-    list    count, how many entries follow, width, height and hshift + 256 * vshift of each
+    list    count, how many entries follow, width, height and hshift + 256 * vshift + 65,536 * origin of each
     plan    count, how many entries follow, flags, first and number of each
     step    1 if horizontal, 1 if in place, first, number
 and the last entry that follows stands for the rest of its array too.
 """
 import struct
 import sys
+from random import Random
 
 import rules
-from rules import (MAX_CHANNELS, MAX_SAMPLES, MAX_STEPS, META, STOPS, coarse_count, default_plan, is_allowed, is_meta, total)
+from rules import (MAX_CHANNELS, MAX_SAMPLES, MAX_STEPS, META, STOPS, coarse_count, default_plan, is_allowed, is_meta,
+                   plan_origins, step_origins, total)
 
-RUST, OWN, VERSIONS = 1, 2, 3
-STEP, PLAN, DEFAULT, COARSE, MEANT = 1, 2, 3, 4, 5
-PROGRAM_READS = 589_824
+RUST, OWN, VERSIONS, ORIGINS = 'Rust', 'own', 'versions', 'origins'
+STEP, PLAN, DEFAULT, COARSE, MEANT = 'steps', 'plans', 'default plans', 'coarse counts', 'steps meant'
+SAYS = [(RUST, STEP), (RUST, PLAN), (RUST, DEFAULT), (RUST, COARSE)]
+SAYS += [(source, kind) for source in (OWN, VERSIONS) for kind in (STEP, PLAN, DEFAULT, COARSE, MEANT) if (source, kind) != (VERSIONS, STEP)]
+SAYS += [(ORIGINS, STEP), (ORIGINS, PLAN)]
+PROGRAM_ROOM = 16_384
 
 # ---- document 01's rules, over those of rules.py, with a refusal's number as the answer
 def judge_list(channels):
@@ -55,13 +60,18 @@ def judge_step(step, channels):
         return refusal.args[0]
 
 
-# ---- a list as flat arrays hold it: a count, and entries of which those past the count mean nothing
-def held(channels, unused=(), count=None):
-    return (len(channels) if count is None else count, list(channels) + list(unused))
+# ---- a list as flat arrays hold it: a count, entries of which those past the count mean nothing, and origins, zeros where none are given
+def held(channels, unused=(), count=None, origins=()):
+    return (len(channels) if count is None else count, list(channels) + list(unused), list(origins))
+
+
+def origins_of(flat):
+    count, _, origins = flat
+    return (origins + [0] * MAX_CHANNELS)[:min(count, MAX_CHANNELS)]
 
 
 def meant(flat):
-    count, entries = flat
+    count, entries, _ = flat
     return (entries + [(0, 0, 0, 0)] * MAX_CHANNELS)[:min(count, MAX_CHANNELS)]
 
 
@@ -96,12 +106,13 @@ def judge_plan(flat, plan, version=1):
     if answer:
         return answer, flat
     channels = meant(flat)
-    for step in [(flags % 2, flags // 2, f, n) for flags, f, n in entries[:count]]:
+    steps = [(flags % 2, flags // 2, f, n) for flags, f, n in entries[:count]]
+    for step in steps:
         answer = judge_step(step, channels)
         if answer:
             return answer, flat
         channels = take_step(step, channels)
-    return 0, held(channels)
+    return 0, held(channels, origins=plan_origins(meant(flat), steps))
 
 
 # ---- the stream
@@ -110,7 +121,8 @@ cases = {}
 
 def put(source, kind, *parts):
     samples = [x for part in parts for x in part]
-    cases.setdefault(struct.pack('<%dI' % (len(samples) + 3), source, kind, len(samples), *samples))
+    assert 4 * len(samples) <= PROGRAM_ROOM
+    cases.setdefault((source, kind), {}).setdefault(struct.pack('<%dI' % (len(samples) + 1), 4 * len(samples), *samples))
 
 
 def array_samples(arrays, zeros, size):
@@ -123,8 +135,12 @@ def array_samples(arrays, zeros, size):
 
 
 def list_samples(flat):
-    count, entries = flat
-    return array_samples((count, [(w, h, hs + 256 * vs) for w, h, hs, vs in entries]), (0, 0, 0), MAX_CHANNELS)
+    count, entries, origins = flat
+    size = max(len(entries), len(origins))
+    entries = entries + [(0, 0, 0, 0)] * (size - len(entries))
+    origins = origins + [0] * (size - len(origins))
+    merged = [(w, h, hs + 256 * vs + 65_536 * o) for (w, h, hs, vs), o in zip(entries, origins)]
+    return array_samples((count, merged), (0, 0, 0), MAX_CHANNELS)
 
 
 def plan_samples(plan):
@@ -199,7 +215,8 @@ def rust_list(text):
         if answer:
             break
         channels = after
-    put_plan(RUST, held(start), plan_of(steps), answer, held(start if answer else channels))
+    after = held(start) if answer else held(channels, origins=plan_origins(start, steps))
+    put_plan(RUST, held(start), plan_of(steps), answer, after)
     if not answer:
         put_coarse(held(channels))
 
@@ -219,10 +236,11 @@ def rust_small(text):
 
 
 # ---- cases of our own, by the rules above
-def own_step(flat, step):
+def own_step(flat, step, source=OWN):
     channels = meant(flat)
     answer = judge_flat(flat) or judge_step(step, channels)
-    put_step(OWN, flat, step, answer, flat if answer else held(take_step(step, channels)))
+    after = flat if answer else held(take_step(step, channels), origins=step_origins(origins_of(flat), *step))
+    put_step(source, flat, step, answer, after)
     return answer
 
 
@@ -501,6 +519,82 @@ def version_sweeps():
             put_coarse(flat, VERSIONS, version)
 
 
+# Origins (document 02, A.4): lists that come with any origins, steps (none: the default plan) and the origins that a
+# plan leaves, or the refusal's number.
+ORIGIN_ROWS = """
+4 4 0 0                                  |                       | 0                       | no step
+20 9 0 0                                 |                       | 0 0 0 0                 | all of one channel
+4 4 0 0 ; 4 4 0 0 ; 4 4 0 0              | h in 0 1              | 0 0 1 2                 | in place: those behind move on
+4 4 0 0 ; 4 4 0 0 ; 4 4 0 0              | h out 0 2             | 0 1 2 0 1               | not in place: residuals at the end
+4 4 0 0 ; 4 4 0 0 ; 4 4 0 0              | v in 1 2              | 0 1 2 1 2               | a range at the end
+4 4 0 0 ; 4 4 0 0                        | h in 0 1 ; h in 1 1   | 0 0 0 1                 | a residual of a residual
+4 4 0 0 ; 4 4 0 0                        | h out 0 2 ; v out 3 1 ; v in 4 1 | 0 1 0 1 1 1  | and at the end of the list
+4 4 0 0 ; 4 4 0 0 ; 4 4 0 0              | h in 0 1 ; h in 1 1 ; v out 3 1 | 0 0 0 1 2 1   | all three
+7 3 m m ; 9 9 0 0                        | h in 0 1 ; v in 2 1   | 0 0 1 1                 | a meta channel
+7 3 m m ; 7 3 m m ; 4 4 0 0              | v in 0 2              | 0 1 0 1 2               | a meta range
+9 9 0 0 ; 9 9 0 0 ; 9 9 0 0              |                       | 0 1 2 0 1 2 0 1 2 1 2 1 2 | chroma steps first
+4 4 0 0 ; 4 4 0 0                        | h in 0 1 ; h in 4 1   | 6                       | a refused plan
+4 4 31 0                                 | h in 0 1              | 4                       | a refused list
+"""
+
+FOREIGN = (list(range(3)), [0] * 256, [255] * 256, list(range(255, -1, -1)), [7, 7, 200, 3, 0, 91] * 43)
+
+
+def origin_rows():
+    for row in ORIGIN_ROWS.strip('\n').split('\n'):
+        channels, steps, expected, why = row.split('|')
+        channels, plan, expected = channels_of(channels), plan_of(steps_of(steps)), list(map(int, expected.split()))
+        for origins in FOREIGN:
+            flat = held(channels, origins=origins[:len(channels)])
+            answer, after = judge_plan(flat, plan)
+            assert [answer] == expected if answer else origins_of(after) == expected, (why, answer, after)
+            put_plan(ORIGINS, flat, plan, answer, after)
+
+
+def origin_sweeps():
+    # every range of some lists, each direction and place, from any origins, junk past the count among them
+    for channels in ([plain, wide, tall], [meta, meta, wide, tall]):
+        for first in range(len(channels) + 1):
+            for number in range(len(channels) + 1):
+                for k in range(4):
+                    for origins in FOREIGN[2:]:
+                        own_step(held(channels, origins=origins), (k % 2, k // 2, first, number), ORIGINS)
+    # 128 channels squeezed to 256, in place and not, and one too many
+    for number in (128, 127, 129):
+        for inplace in (0, 1):
+            for first in (0, 1):
+                step = (1, inplace, first, number)
+                own_step(held([(2, 2, 0, 0)] * 128, origins=FOREIGN[3][:128]), step, ORIGINS)
+                put_plan(ORIGINS, held([(2, 2, 0, 0)] * 128), plan_of([step]), *judge_plan(held([(2, 2, 0, 0)] * 128), plan_of([step])))
+
+
+# Random plans: each step is one that the list takes or, at times, any. By A.4, "for each origin, the samples of all its
+# channels total the samples of the original".
+def random_plans():
+    random = Random(4)
+    for _ in range(200):
+        metas = random.randrange(3)
+        start = [(random.randrange(1, 40), random.randrange(1, 40), META, META) for _ in range(metas)]
+        start += [(random.randrange(1, 40), random.randrange(1, 40), random.randrange(3), 0) for _ in range(random.randrange(1, 5))]
+        channels, steps = start, []
+        for _ in range(random.randrange(1, 12)):
+            first = random.randrange(len(channels))
+            step = (random.randrange(2), random.randrange(2), first, random.randrange(1, min(4, len(channels) - first) + 1))
+            if judge_step(step, channels) == 0:
+                steps.append(step)
+                channels = take_step(step, channels)
+            elif random.randrange(12) == 0:
+                steps.append(step)
+                break
+        flat = held(start, origins=[random.randrange(256) for _ in start])
+        answer, after = judge_plan(flat, plan_of(steps))
+        put_plan(ORIGINS, flat, plan_of(steps), answer, after)
+        if answer == 0:
+            origins = origins_of(after)
+            for o, c in enumerate(start):
+                assert total([d for d, of in zip(meant(after), origins) if of == o]) == total([c])
+
+
 if __name__ == '__main__':
     for path, rust_case in zip(sys.argv[1:], (rust_list, rust_default, rust_small), strict=True):
         for text in open(path):
@@ -511,8 +605,12 @@ if __name__ == '__main__':
     sweeps()
     version_rows()
     version_sweeps()
-    stream = b''.join(cases)
-    assert len(stream) <= PROGRAM_READS
-    sys.stdout.buffer.write(stream)
+    origin_rows()
+    origin_sweeps()
+    random_plans()
+    assert sorted(cases) == sorted(SAYS)
+    for source, kind in SAYS:
+        sys.stdout.buffer.write(struct.pack('<I', len(cases[source, kind])) + b''.join(cases[source, kind]))
+        print('%s, %s %d' % (source, kind, len(cases[source, kind])), file=sys.stderr)
     for number, count in adjusted.items():
         print('refusal %d instead of the Rust in %d cases: %s' % (number, count, INSTEAD[number][0]), file=sys.stderr)

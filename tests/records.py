@@ -9,15 +9,20 @@ order, the default plan, a step on a list and the coarse count. The record that 
 text first.
 
 The stream has for each kind of KINDS the number of its cases and the cases. A case is the number of a record's or an
-input's bytes, these bytes, the number of its text's bytes and the text. A number has four bytes, least byte first. The number of cases
-of each kind goes to standard error.
+input's bytes, these bytes, the number of its text's bytes and the text, and of a record that is accepted the number of bytes
+and the numbers of its layout: version, steps, channels and coarse channels, flags, first and number of each step, width,
+height and two shifts of each channel, and the origins; of any other 0. A number has four bytes, least byte first. The number
+of cases of each kind goes to standard error.
 """
 import struct
 import sys
 
-from rules import VERSION_2, Refused, channel, coarse_count, field, is_meta, layouts, meaning, meta, short, strip, tagged
+from random import Random
 
-KINDS = {kind: [] for kind in ['printed', 'cuts', 'refusals', 'order', 'limits', 'sizes', 'metas', 'plans', 'bytes', 'strips', 'versions', 'inputs']}
+from rules import (VERSION_2, Refused, channel, coarse_count, field, is_meta, layouts, meaning, meta, plan_origins, read,
+                   short, step, strip, tagged, total)
+
+KINDS = {kind: [] for kind in ['printed', 'cuts', 'refusals', 'order', 'limits', 'sizes', 'metas', 'plans', 'bytes', 'strips', 'versions', 'origins', 'inputs']}
 
 
 # The program squeeze-list: "judges the first 4,096 bytes of standard input".
@@ -40,6 +45,23 @@ def listing(record):
         return f'refused {refusal}\n'
 
 
+# The numbers of a layout (document 02, A.4).
+
+def numbers(version, channels, steps):
+    left = layouts(channels, steps)[-1]
+    found = [version, len(steps), len(left), coarse_count(left, version)]
+    found += [n for s in steps for n in (s[0] + 2 * s[1], s[2], s[3])] + [n for c in left for n in c]
+    return found + plan_origins(channels, steps)
+
+
+def rows(record):
+    try:
+        found = numbers(*meaning(record))
+        return struct.pack('<%dI' % len(found), *found)
+    except Refused:
+        return b''
+
+
 # Records.
 
 def case(kind, record, refusal=None):
@@ -47,7 +69,7 @@ def case(kind, record, refusal=None):
     expected = listing(record[:JUDGED] if kind == 'inputs' else record)
     if refusal is not None:
         assert expected.startswith('steps ') if refusal == 0 else expected == f'refused {refusal}\n', (kind, expected)
-    KINDS[kind].append((record, expected.encode()))
+    KINDS[kind].append((record, expected.encode(), b'' if kind == 'inputs' else rows(record)))
 
 
 PRINTED = channel(20, 9)
@@ -309,6 +331,55 @@ def versions():
         case('versions', whole[:n] + VERSION_2, 2 if n in (4, 13, 22, 35, 43, 51) else None)
 
 
+# Origins (document 02, A.4): a record, and the origins that its plan leaves.
+
+A, M = channel(4, 4), meta(7, 3)
+H, V = 1, 0  # flags: 1 for horizontal, and 2 for in place
+ORIGINS = [
+    (A, [0]), (PRINTED, [0] * 4),
+    (A * 3 + field(H + 2, 0, 1), [0, 0, 1, 2]), (A * 3 + field(H, 0, 2), [0, 1, 2, 0, 1]),
+    (A * 3 + field(V + 2, 1, 2), [0, 1, 2, 1, 2]), (A * 2 + field(H + 2, 0, 1) + field(H + 2, 1, 1), [0, 0, 0, 1]),
+    (A * 2 + field(H, 0, 2) + field(V, 3, 1) + field(V + 2, 4, 1), [0, 1, 0, 1, 1, 1]),
+    (A * 3 + field(H + 2, 0, 1) + field(H + 2, 1, 1) + field(V, 3, 1), [0, 0, 0, 1, 2, 1]),
+    (M + channel(9, 9) + field(H + 2, 0, 1) + field(V + 2, 2, 1), [0, 0, 1, 1]),
+    (M * 2 + A + field(V + 2, 0, 2), [0, 1, 0, 1, 2]),
+    (channel(9, 9) * 3, [0, 1, 2] * 3 + [1, 2] * 2), (VERSION_2 + channel(33, 9) * 3, [0, 1, 2] * 2),
+    (channel(2, 2) * 128 + field(H, 0, 128), list(range(128)) * 2),
+    (channel(2, 2) * 128 + field(H + 2, 0, 128), list(range(128)) * 2),
+    (channel(2, 2) * 128 + field(H + 2, 1, 127) + field(V, 255 - 127, 1), [0] + list(range(1, 128)) * 2 + [1]),
+]
+
+
+def origins():
+    for record, expected in ORIGINS:
+        _, channels, steps = meaning(record)
+        assert plan_origins(channels, steps) == expected, (record, plan_origins(channels, steps))
+        case('origins', record, 0)
+    random = Random(44)
+    for _ in range(300):
+        record = random.choice([b'', VERSION_2]) + M * random.randrange(3)
+        record += b''.join(channel(random.randrange(1, 50), random.randrange(1, 50)) for _ in range(random.randrange(1, 6)))
+        record += b''.join(field(*s) for s in random_steps(random, read(record)[1]))
+        case('origins', record, 0)
+        _, channels, steps = meaning(record)
+        left, found = layouts(channels, steps)[-1], plan_origins(channels, steps)
+        for o, c in enumerate(channels):
+            assert total([d for d, of in zip(left, found) if of == o]) == total([c])
+
+
+def random_steps(random, channels):
+    """Flags, first and number of some steps that are accepted one after the other."""
+    steps = []
+    for _ in range(random.randrange(12)):
+        flags, first, number = random.randrange(4), random.randrange(len(channels)), random.randrange(1, 4)
+        try:
+            channels = step(channels, flags % 2, flags // 2, first, number)
+            steps.append((flags, first, number))
+        except Refused:
+            pass
+    return steps
+
+
 # Long inputs, and each value of a byte of the printed record.
 
 def byte_values():
@@ -357,11 +428,11 @@ def inputs():
 
 
 if __name__ == '__main__':
-    for make in (printed, cuts, refusals, order, limits, sizes, metas, palettes, plans, byte_values, strips, versions, inputs):
+    for make in (printed, cuts, refusals, order, limits, sizes, metas, palettes, plans, byte_values, strips, versions, origins, inputs):
         make()
     out = sys.stdout.buffer
     for kind, cases in KINDS.items():
         out.write(struct.pack('<I', len(cases)))
-        for record, expected in cases:
-            out.write(struct.pack('<I', len(record)) + record + struct.pack('<I', len(expected)) + expected)
-        print(kind, len(cases), 'refused', sum(e.startswith(b'refused') for _, e in cases), file=sys.stderr)
+        for parts in cases:
+            out.write(b''.join(struct.pack('<I', len(part)) + part for part in parts))
+        print(kind, len(cases), 'refused', sum(expected.startswith(b'refused') for _, expected, _ in cases), file=sys.stderr)

@@ -1,7 +1,8 @@
 """The papers' rules in plain form, for the generators beside this file: records, lists, plans and the pair.
 
 A channel is (width, height, horizontal shift, vertical shift), a step (horizontal, in place, first, number). Written
-from document 01 alone, the coarse count from document 02, A.2, sides and tag 3 from its A.8, versions from its A.11.
+from document 01 alone, the coarse count from document 02, A.2, sides and tag 3 from its A.8, versions from its A.11,
+origins from its A.4.
 """
 import struct
 
@@ -126,6 +127,22 @@ def step(channels, horizontal, inplace, first, number):
     ask(all(is_meta(c) or max(a[2:]) <= MAX_SHIFT for c, a in zip(channels[first:end], averages)), 10)
     after = channels[end:]
     return channels[:first] + averages + (residuals + after if inplace else after + residuals)
+
+
+# "A residual takes the origin of the channel squeezed, also when that was itself a residual."
+
+def step_origins(origins, horizontal, inplace, first, number):
+    squeezed, after = origins[first:first + number], origins[first + number:]
+    return origins[:first] + squeezed + (squeezed + after if inplace else after + squeezed)
+
+
+# "A plan run starts by giving each channel its own position."
+
+def plan_origins(channels, steps):
+    origins = list(range(len(channels)))
+    for s in steps:
+        origins = step_origins(origins, *s)
+    return origins
 
 
 def meaning(record):

@@ -1,22 +1,17 @@
 // Replays lists, steps and plans (tests/lists.py made `stdin` of the published
-// Rust's answers and of cases by document 01's rules, and says how it is laid
-// out). Compares answers and whole arrays, and prints how many cases of each
-// kind there were and how many came out right.
+// Rust's answers and of cases by the papers' rules, and says how it is laid out).
+// Compares answers and whole arrays, and prints how many cases of each kind there
+// were and how many came out right.
 ghost use Prim.Native.Nat.{_+_, _<_, _≤_};
-use libc::STDIN_FILENO;
 use list::ChannelList;
 use list::Step;
 use plan::Steps;
+use replay::read_case;
+use replay::read_word;
 use samples::sample_at;
 use samples::word_at;
 
-// Where the cases come from, and their kinds.
-const RUST: usize = 1;
-
-const OWN: usize = 2;
-
-const VERSIONS: usize = 3;
-
+// The kinds of cases.
 const STEP: usize = 1;
 
 const PLAN: usize = 2;
@@ -30,10 +25,8 @@ const MEANT: usize = 5;
 // The bytes of an entry of a list or a plan.
 const ENTRY: usize = 12;
 
-struct Score {
-    cases: u64,
-    right: u64,
-}
+// Room for a case.
+const CASE: usize = 16_384;
 
 // The number at `at`; 0 for a negative one.
 fn number_at(bytes: &[u8], at: usize) -> usize
@@ -78,11 +71,12 @@ fn list_at(bytes: &[u8], at: usize) -> ChannelList
         let e = at + 8 + ENTRY * entry(k, written);
         let width = word_at(bytes, e);
         let height = word_at(bytes, e + 4);
-        let shifts = number16_at(bytes, e + 8);
+        let rest = number_at(bytes, e + 8);
         list.widths[k] = width;
         list.heights[k] = height;
-        list.hshifts[k] = (shifts % 0x100) as u8;
-        list.vshifts[k] = (shifts / 0x100) as u8;
+        list.hshifts[k] = (rest % 0x100) as u8;
+        list.vshifts[k] = (rest / 0x100 % 0x100) as u8;
+        list.origins[k] = (rest / 0x1_0000 % 0x100) as u8;
     }
     list
 }
@@ -121,7 +115,8 @@ fn same_list(a: ChannelList, b: ChannelList) -> bool {
             & (a.widths[k] == b.widths[k])
             & (a.heights[k] == b.heights[k])
             & (a.hshifts[k] == b.hshifts[k])
-            & (a.vshifts[k] == b.vshifts[k]);
+            & (a.vshifts[k] == b.vshifts[k])
+            & (a.origins[k] == b.origins[k]);
     }
     same
 }
@@ -225,59 +220,39 @@ fn agrees(bytes: &[u8], at: usize, kind: usize) -> bool
     }
 }
 
-// The case at `at`, if it is of this source and kind.
-fn score_at(bytes: &[u8], at: usize, source: usize, kind: usize) -> Score
-    requires { ⌜ at < 0x8000_0000_0000_0000 ⌝ }
-    ensures { λ r. ⌜ (r .cases ≤ 1) × (r .right ≤ 1) ⌝ }
-{
-    if (number_at(bytes, at) != source) | (number_at(bytes, at + 4) != kind) {
-        return Score { cases: 0, right: 0 };
-    }
-    if agrees(bytes, at + 12, kind) {
-        Score { cases: 1, right: 1 }
-    } else {
-        Score { cases: 1, right: 0 }
-    }
-}
-
-// All cases of one source and kind.
-fn tally(bytes: &[u8], source: usize, kind: usize) -> Score {
-    let mut cases = 0u64;
+// Replays the next cases of standard input; how many are right.
+fn replay(cases: u32, kind: usize) -> u64 {
+    let mut bytes = [0u8; CASE];
     let mut right = 0u64;
-    let mut at = 0;
-    while at < bytes.len() {
-        let score = score_at(bytes, at, source, kind);
-        cases += score.cases;
-        right += score.right;
-        at = at + 12 + 4 * number_at(bytes, at + 8);
+    for _ in 0..cases {
+        let n = read_case(&mut bytes);
+        if agrees(&bytes[0..n], 0, kind) {
+            right += 1;
+        }
     }
-    Score { cases, right }
+    right
 }
 
-// Says how many cases of one source and kind there are, and how many are right.
-fn say(bytes: &[u8], what: &[u8], source: usize, kind: usize) {
-    let t = tally(bytes, source, kind);
-    replay::say(what, t.cases, t.right);
-}
-
-fn report(bytes: &[u8]) {
-    say(bytes, b"Rust, steps ", RUST, STEP);
-    say(bytes, b"Rust, plans ", RUST, PLAN);
-    say(bytes, b"Rust, default plans ", RUST, DEFAULT);
-    say(bytes, b"Rust, coarse channels ", RUST, COARSE);
-    say(bytes, b"own, steps ", OWN, STEP);
-    say(bytes, b"own, plans ", OWN, PLAN);
-    say(bytes, b"own, default plans ", OWN, DEFAULT);
-    say(bytes, b"own, coarse counts ", OWN, COARSE);
-    say(bytes, b"own, steps meant ", OWN, MEANT);
-    say(bytes, b"versions, plans ", VERSIONS, PLAN);
-    say(bytes, b"versions, default plans ", VERSIONS, DEFAULT);
-    say(bytes, b"versions, coarse counts ", VERSIONS, COARSE);
-    say(bytes, b"versions, steps meant ", VERSIONS, MEANT);
+// Replays the cases of the next source and kind and says how many are right.
+fn say(name: &[u8], kind: usize) {
+    let cases = read_word();
+    replay::say(name, cases as u64, replay(cases, kind));
 }
 
 fn main() {
-    let mut buffer = [0u8; 589824];
-    let n = io::read_full(STDIN_FILENO, &mut buffer);
-    report(&buffer[..n]);
+    say(b"Rust, steps ", STEP);
+    say(b"Rust, plans ", PLAN);
+    say(b"Rust, default plans ", DEFAULT);
+    say(b"Rust, coarse channels ", COARSE);
+    say(b"own, steps ", STEP);
+    say(b"own, plans ", PLAN);
+    say(b"own, default plans ", DEFAULT);
+    say(b"own, coarse counts ", COARSE);
+    say(b"own, steps meant ", MEANT);
+    say(b"versions, plans ", PLAN);
+    say(b"versions, default plans ", DEFAULT);
+    say(b"versions, coarse counts ", COARSE);
+    say(b"versions, steps meant ", MEANT);
+    say(b"origins, steps ", STEP);
+    say(b"origins, plans ", PLAN);
 }

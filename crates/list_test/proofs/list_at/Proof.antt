@@ -47,11 +47,11 @@ add-word-at c = search needs
 word-at-requires-2 : tie.Need-word-at-requires-2 Inv-loop μ-loop
 word-at-requires-2 c κs = search needs
 
-add-number16-at : tie.Need-add-number16-at Inv-loop μ-loop
-add-number16-at c = search needs
+add-number-at-2 : tie.Need-add-number-at-2 Inv-loop μ-loop
+add-number-at-2 c = search needs
 
-number16-at-requires : tie.Need-number16-at-requires Inv-loop μ-loop
-number16-at-requires c κs = search needs
+number-at-requires-3 : tie.Need-number-at-requires-3 Inv-loop μ-loop
+number-at-requires-3 c κs = search needs
 
 mul-list : tie.Need-mul-list Inv-loop μ-loop
 mul-list c = search needs
@@ -76,6 +76,12 @@ cast-list-2 c = search needs
 
 element-write-list-4 : tie.Need-element-write-list-4 Inv-loop μ-loop
 element-write-list-4 c = search needs
+
+cast-list-3 : tie.Need-cast-list-3 Inv-loop μ-loop
+cast-list-3 c = search needs
+
+element-write-list-5 : tie.Need-element-write-list-5 Inv-loop μ-loop
+element-write-list-5 c = search needs
 
 add-k : tie.Need-add-k Inv-loop μ-loop
 add-k c = search needs
@@ -107,8 +113,8 @@ list-at-spec =
     word-at-requires
     add-word-at
     word-at-requires-2
-    add-number16-at
-    number16-at-requires
+    add-number-at-2
+    number-at-requires-3
     mul-list
     element-write-list
     mul-list-2
@@ -117,6 +123,8 @@ list-at-spec =
     element-write-list-3
     cast-list-2
     element-write-list-4
+    cast-list-3
+    element-write-list-5
     add-k
     loop-less
     loop-again

@@ -50,6 +50,12 @@ element-copy-out-same-7 c = search needs
 element-copy-out-same-8 : tie.Need-element-copy-out-same-8 Inv-loop μ-loop
 element-copy-out-same-8 c = search needs
 
+element-copy-out-same-9 : tie.Need-element-copy-out-same-9 Inv-loop μ-loop
+element-copy-out-same-9 c = search needs
+
+element-copy-out-same-10 : tie.Need-element-copy-out-same-10 Inv-loop μ-loop
+element-copy-out-same-10 c = search needs
+
 add-k : tie.Need-add-k Inv-loop μ-loop
 add-k c = search needs
 
@@ -81,6 +87,8 @@ same-list-spec =
     element-copy-out-same-6
     element-copy-out-same-7
     element-copy-out-same-8
+    element-copy-out-same-9
+    element-copy-out-same-10
     add-k
     loop-less
     loop-again

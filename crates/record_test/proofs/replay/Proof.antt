@@ -9,10 +9,11 @@ use Rattle.record_test.proofs.replay.Statement.{statement}
 use Rattle.record_test.proofs.replay.Tie as tie
 
 abbrev Inv-loop : tie.InvT-loop
-Inv-loop cases are-records bytes₀ text₀ right₀ counter₀ bytes text right counter = (right ≤ counter) × (counter ≤ cases) × (length bytes ≡ 10240) × (length text ≡ 8192)
+Inv-loop cases are-records bytes₀ text₀ rows₀ right₀ counter₀ bytes text rows right counter =
+    (right ≤ counter) × (counter ≤ cases) × (length bytes ≡ 10240) × (length text ≡ 8192) × (length rows ≡ 6144)
 
 abbrev μ-loop : tie.MeasureT-loop
-μ-loop cases are-records bytes₀ text₀ right₀ counter₀ bytes text right counter = cases - counter
+μ-loop cases are-records bytes₀ text₀ rows₀ right₀ counter₀ bytes text rows right counter = cases - counter
 
 loop-holds : tie.Need-loop-holds Inv-loop μ-loop
 loop-holds c = search needs
@@ -28,6 +29,12 @@ slice-aggregate-read-case-2 c = search needs
 
 read-case-requires-2 : tie.Need-read-case-requires-2 Inv-loop μ-loop
 read-case-requires-2 c κs = search needs
+
+slice-aggregate-read-case-3 : tie.Need-slice-aggregate-read-case-3 Inv-loop μ-loop
+slice-aggregate-read-case-3 c = search needs
+
+read-case-requires-3 : tie.Need-read-case-requires-3 Inv-loop μ-loop
+read-case-requires-3 c κs = search needs
 
 sub-agrees : tie.Need-sub-agrees Inv-loop μ-loop
 sub-agrees c = search needs
@@ -46,6 +53,15 @@ part-agrees-start-2 c = search needs
 
 part-agrees-end-2 : tie.Need-part-agrees-end-2 Inv-loop μ-loop
 part-agrees-end-2 c = search needs
+
+sub-agrees-3 : tie.Need-sub-agrees-3 Inv-loop μ-loop
+sub-agrees-3 c = search needs
+
+part-agrees-start-3 : tie.Need-part-agrees-start-3 Inv-loop μ-loop
+part-agrees-start-3 c = search needs
+
+part-agrees-end-3 : tie.Need-part-agrees-end-3 Inv-loop μ-loop
+part-agrees-end-3 c = search needs
 
 agrees-requires : tie.Need-agrees-requires Inv-loop μ-loop
 agrees-requires c κs = search needs
@@ -76,12 +92,17 @@ replay-spec =
     read-case-requires
     slice-aggregate-read-case-2
     read-case-requires-2
+    slice-aggregate-read-case-3
+    read-case-requires-3
     sub-agrees
     part-agrees-start
     part-agrees-end
     sub-agrees-2
     part-agrees-start-2
     part-agrees-end-2
+    sub-agrees-3
+    part-agrees-start-3
+    part-agrees-end-3
     agrees-requires
     add-right
     add-counter
