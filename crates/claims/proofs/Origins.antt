@@ -3,12 +3,12 @@
 use mathlib.Core.Path.{_≡_, refl, sym, ap, _∙_}
 use mathlib.Core.Bool.{Bool, true, false, cond}
 use mathlib.Core.List.{List, [], _∷_}
-use Prim.Native.Nat.{ℕ, _≤_}
+use Prim.Native.Nat.{ℕ}
 use native.Mathlib.Omega.{arith}
 use lib.Dec.{eqb}
 use lib.IntN.{ℤ}
 use lib.ListN.{length, getD}
-use borrow.Author.Tests.{eqb-true, eqb-false, eq-eqb, ne-eqb}
+use borrow.Author.Tests.{eqb-true, eqb-false, ne-eqb}
 use Rattle.channel.specs.declared.Channel.{Channel}
 use Rattle.channel.specs.Channel as C
 use Rattle.list.specs.declared.ChannelList.{ChannelList}
@@ -40,14 +40,14 @@ use Rattle.record.specs.Reading.{Form}
 use Rattle.record.specs.Records as Records
 use Rattle.record.specs.Records.{readAnswer, readOf, channelsOf, stepsOf, reachedOf, originsOf}
 use Rattle.record.proofs.Readings.{channels-accepted, steps-judged}
-use Rattle.record.proofs.RecordOf.{record-form, record-accepted, record-reached}
+use Rattle.record.proofs.RecordOf.{record-form, record-accepted}
 use Rattle.layout.proofs.Back.{numbers-back}
 use Rattle.runs.specs.Runs.{isTaken, layout}
 use Rattle.origins.specs.Origins.{originsFrom, layoutOrigins}
 use Rattle.origins.proofs.Whole.{origin-laws}
 use Rattle.rebuild.specs.Rebuild as Rebuild
 use Rattle.write.specs.Write as Write
-use Rattle.claims.specs.Origins.{afterSteps, WholeRuns, withOrigins, OnlyOrigins, squares, squareSteps, ownResiduals, squeezedPositions, leftBehind, leftInRange, zeroForAll, originsBy, OriginsRefuted, along, TakenOverRefuted, NotThrough, Origins}
+use Rattle.claims.specs.Origins.{afterSteps, WholeRuns, withOrigins, OnlyOrigins, squares, squareSteps, ownResiduals, squeezedPositions, leftBehind, leftInRange, originsBy, OriginsRefuted, TakenOverRefuted, NotThrough, Origins}
 use Rattle.claims.proofs.Demands.{layout-reached}
 
 -- ---- steps one by one

@@ -1,13 +1,14 @@
 -- The rows of a layout (specs/Layout.antt): their lengths beside the slices', the counts that the code finds, and the call's three outcomes: refused by
 -- questions 1 to 11, refused by question 14, and done. Assumes nothing.
-use mathlib.Core.Path.{_≡_, refl, sym, ap, _∙_}
+use mathlib.Core.Path.{_≡_, sym, ap, _∙_}
 use mathlib.Core.Bool.{true, false, _&&_, and-assoc, and-eq-true-iff}
 use mathlib.Core.List.{List, [], _∷_}
-use Prim.Native.Nat.{ℕ, _*_, _≤_, min}
+use Prim.Native.Nat.{ℕ, _*_, _≤_}
 use native.Mathlib.Omega.{arith}
-use lib.Dec.{eqb, leb}
+use lib.Dec.{leb}
 use lib.ListN.{length}
-use borrow.Author.Tests.{eq-eqb, ne-eqb, leb-true, le-leb}
+use borrow.Author.Tests.{ne-eqb, leb-true}
+use Rattle.numbers.specs.Numbers.{refusedLength}
 use Rattle.list.specs.declared.ChannelList.{ChannelList}
 use Rattle.list.specs.Lists.{maxChannels, maxSteps, channels, origins}
 use Rattle.list.proofs.Channels.{origins-length}
@@ -95,7 +96,7 @@ module _ (bytes : List ℕ) (out : Rows) where
   refused a e h = (rw (← e, ne-eqb a 0 h), rw (← e, ne-eqb a 0 h, ne-eqb a 0 h))
 
   module _ (z : readAnswer bytes ≡ 0) where
-    pub short : allFit (layoutOf bytes) out ≡ false → (12 ≡ answer bytes out) × (out ≡ after bytes out)
+    pub short : allFit (layoutOf bytes) out ≡ false → (refusedLength ≡ answer bytes out) × (out ≡ after bytes out)
     unfolding Layout.answer Layout.after
     short h = (rw (z, h), rw (z, h))
 

@@ -1,8 +1,9 @@
 // The channel list (document 01, "The list and the plan"; the Rust's
 // `check_squeeze_params` and the Squeeze arm of `meta_apply_single_transform`):
 // flat arrays filled up to a count, the questions put to a list and to a step
-// on it, and the list that a step leaves. Total: any count, any shift and any
-// unused entry may come in.
+// on it, and the list that a step leaves; each channel has its origin (document
+// 02, A.4). Total: any count, any shift, any origin and any unused entry may come
+// in.
 ghost use mathlib.Core.Path.{_≡_};
 ghost use mathlib.Core.Bool.{true, false, cond};
 ghost use mathlib.Core.List.{[]};

@@ -1,3 +1,5 @@
+-- `layout_of` meets its contract: the record's refusal, the slices', or the rows of its layout over them (proofs/Read.antt, proofs/Outcomes.antt). Assumes
+-- nothing.
 use mathlib.Core.Path.{_≡_, sym, ap, _∙_}
 use mathlib.Core.Bool.{Bool, true, false, _&&_}
 use Prim.Native.Nat.{_*_}
