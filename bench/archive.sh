@@ -11,7 +11,7 @@ if [ ! -f "$old/libbefore.a" ]; then
     git archive "$1" | tar -x -C "$old/tree"
     (cd "$old/tree" && rt staticlib squeeze > /dev/null 2>&1)
     cp "$old/tree/target/staticlib/libsqueeze.a" "$old/libbefore.a"
-    for name in tile rebuild write grid_rect listing record; do
+    for name in tile rebuild write grid_rect listing layout record; do
         objcopy --redefine-sym "squeeze_$name=before_$name" "$old/libbefore.a"
     done
 fi
