@@ -11,7 +11,7 @@ use Rattle.channel.specs.declared.Channel.{Channel}
 use Rattle.list.specs.declared.ChannelList.{ChannelList}
 use Rattle.list.specs.declared.Step.{Step}
 use Rattle.list.specs.Tables.{table, map}
-use Rattle.list.specs.Lists.{channels, origins, ownPositions, before, range, after}
+use Rattle.list.specs.Lists.{lent, channels, origins, ownPositions, before, range, after}
 use Rattle.list.specs.Questions.{judgeList, taken}
 use Rattle.plan.specs.declared.Steps.{Steps}
 use Rattle.plan.specs.Steps.{steps}
@@ -50,8 +50,7 @@ pub record WholeRuns : Type 0 where
 
 -- ---- "only origins were added": a list with others in their place
 abbrev pub withOrigins : List ℕ → ChannelList → ChannelList
-withOrigins os l =
-    record { count = l .count; widths = l .widths; heights = l .heights; hshifts = l .hshifts; vshifts = l .vshifts; origins = os }
+withOrigins os l = lent (l .count) (l .widths) (l .heights) (l .hshifts) (l .vshifts) os
 
 -- has the same channels, is judged alike, and every call gives the same but for a single step's origins and a refused list, which comes back as it came
 pub record OnlyOrigins (os : List ℕ) (l : ChannelList) : Type 0 where

@@ -1,5 +1,5 @@
 -- The channels that flat arrays hold: how many, each of them, and a step's range of them; their origins likewise. Assumes nothing.
-use mathlib.Core.Path.{_≡_, sym, ap, _∙_}
+use mathlib.Core.Path.{_≡_, refl, sym, ap, _∙_}
 use mathlib.Core.Bool.{Bool, true, and-eq-true-iff}
 use mathlib.Core.List.{List, [], _∷_, _++_}
 use Prim.Native.Nat.{ℕ, _+_, _-_, _<_, _≤_, min}
@@ -12,7 +12,7 @@ use Rattle.channel.specs.Channel.{isMeta}
 use Rattle.list.specs.declared.ChannelList.{ChannelList}
 use Rattle.list.specs.declared.Step.{Step}
 use Rattle.list.specs.Tables.{table}
-use Rattle.list.specs.Lists.{maxChannels, channelAt, channels, origins, ownPositions, range}
+use Rattle.list.specs.Lists.{maxChannels, channelAt, lent, channels, origins, ownPositions, range}
 use Rattle.list.specs.Questions.{channelOf, rangeAllowed}
 use Rattle.list.proofs.Tables.{table-length, table-at, table-snoc, table-within}
 
@@ -38,6 +38,11 @@ module _ (l : ChannelList) where
   pub channels-all : (n : ℕ) → n ≡ min (l .count) maxChannels → table (channelAt l) 0 (n - 0) ≡ channels l
   unfolding channels
   channels-all n e = let z : n - 0 ≡ min (l .count) maxChannels = omega arith in ap (table (channelAt l) 0) z
+
+  -- they have no origins
+  pub channels-lent : channels (lent (l .count) (l .widths) (l .heights) (l .hshifts) (l .vshifts) []) ≡ channels l
+  unfolding channels
+  channels-lent = refl
 
   pub channels-length : length (channels l) ≡ min (l .count) maxChannels
   unfolding channels

@@ -2,6 +2,7 @@ pub mod Tables
 pub mod Maps
 pub mod Channels
 pub mod Asking
+pub mod Found
 pub mod Shifts
 pub mod Parts
 pub mod Entries

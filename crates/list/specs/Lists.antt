@@ -27,6 +27,11 @@ entryOf widths heights hshifts vshifts k =
 abbrev pub channelAt : ChannelList → ℕ → Channel
 channelAt l k = entryOf (l .widths) (l .heights) (l .hshifts) (l .vshifts) k
 
+-- arrays and a count as a list
+abbrev pub lent : ℕ → List ℕ → List ℕ → List ℕ → List ℕ → List ℕ → ChannelList
+lent count widths heights hshifts vshifts origins =
+    record { count = count; widths = widths; heights = heights; hshifts = hshifts; vshifts = vshifts; origins = origins }
+
 -- the channels that are meant: the first `count`; nothing else of the arrays is
 unfoldable pub channels : ChannelList → List Channel
 channels l = table (channelAt l) 0 (min (l .count) maxChannels)

@@ -63,11 +63,11 @@ unfoldable pub rangeAllowed : Step → List Channel → Bool
 rangeAllowed s cs = leb 1 (s .number) && leb (s .begin + s .number) (length cs)
 
 -- 8. "Are the first and last of the range both meta or both not?"
+abbrev pub alike : Bool → Bool → Bool
+alike first last = cond first last (not last)
+
 unfoldable pub kindsAlike : Step → List Channel → Bool
-kindsAlike s cs =
-    cond (isMeta (channelOf cs (s .begin)))
-    (isMeta (channelOf cs (s .begin + s .number - 1)))
-    (not (isMeta (channelOf cs (s .begin + s .number - 1))))
+kindsAlike s cs = alike (isMeta (channelOf cs (s .begin))) (isMeta (channelOf cs (s .begin + s .number - 1)))
 
 -- 9. "If meta, is the step in place?"
 unfoldable pub placeAllowed : Step → List Channel → Bool

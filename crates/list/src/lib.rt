@@ -5,12 +5,13 @@
 // 02, A.4). Total: any count, any shift, any origin and any unused entry may come
 // in.
 ghost use mathlib.Core.Path.{_≡_};
-ghost use mathlib.Core.Bool.{true, false, cond};
+ghost use mathlib.Core.Bool.{true, false, cond, _&&_, _||_, not};
 ghost use mathlib.Core.List.{[]};
-ghost use Prim.Native.Nat.{_+_, _<_, min};
+ghost use Prim.Native.Nat.{_+_, _-_, _<_, _≤_, min};
+ghost use lib.Dec.{leb};
 ghost use lib.ListN.{getD};
 ghost use Rattle.channel.specs.Channel.{metaShift, isMeta};
-ghost use Rattle.list.specs.Tables.{all};
+ghost use Rattle.list.specs.Tables.{table, all};
 ghost use Rattle.list.specs.Lists as Lists;
 ghost use Rattle.list.specs.Questions as Questions;
 ghost use Rattle.list.specs.Entries as Entries;
@@ -233,6 +234,191 @@ pub fn store(
     }
 }
 
+// How many channels are meant, of an array's count.
+fn meant(count: usize) -> usize
+    ensures { λ r. ⌜ r ≡ min count Lists.maxChannels ⌝ }
+{
+    if count < ChannelList::MAX_CHANNELS {
+        count
+    } else {
+        ChannelList::MAX_CHANNELS
+    }
+}
+
+// Question 7, of a list with a count.
+fn range_allowed(count: usize, step: Step) -> bool
+    ensures { λ r. ⌜ r ≡ (leb 1 (step .number) && leb (step .begin + step .number) (min count Lists.maxChannels)) ⌝ }
+{
+    let end = step.begin as usize + step.number as usize;
+    (1 <= step.number) & (end <= meant(count))
+}
+
+// Question 8: of the first and the last of a range.
+fn kinds_alike<'a>(
+    widths: &'a [u32; 256],
+    heights: &'a [u32; 256],
+    hshifts: &'a [u8; 256],
+    vshifts: &'a [u8; 256],
+    step: Step,
+) -> bool
+    requires { ⌜ 1 ≤ step .number ⌝ }
+    ensures { λ r. ⌜ r ≡ Questions.alike (isMeta (Lists.entryOf (now (widths .entry)) (now (heights .entry)) (now (hshifts .entry)) (now (vshifts .entry)) (step .begin))) (isMeta (Lists.entryOf (now (widths .entry)) (now (heights .entry)) (now (hshifts .entry)) (now (vshifts .entry)) (step .begin + step .number - 1))) ⌝ }
+{
+    let k = step.begin as usize;
+    let m = k + step.number as usize - 1;
+    let first = entry_of(widths, heights, hshifts, vshifts, k);
+    let last = entry_of(widths, heights, hshifts, vshifts, m);
+    first.is_meta() == last.is_meta()
+}
+
+// Question 9.
+fn place_allowed<'a>(
+    widths: &'a [u32; 256],
+    heights: &'a [u32; 256],
+    hshifts: &'a [u8; 256],
+    vshifts: &'a [u8; 256],
+    step: Step,
+) -> bool
+    ensures { λ r. ⌜ r ≡ (not (isMeta (Lists.entryOf (now (widths .entry)) (now (heights .entry)) (now (hshifts .entry)) (now (vshifts .entry)) (step .begin))) || step .inplace) ⌝ }
+{
+    let k = step.begin as usize;
+    let first = entry_of(widths, heights, hshifts, vshifts, k);
+    !first.is_meta() | step.inplace
+}
+
+// Question 10.
+fn range_has_sides<'a>(
+    widths: &'a [u32; 256],
+    heights: &'a [u32; 256],
+    hshifts: &'a [u8; 256],
+    vshifts: &'a [u8; 256],
+    step: Step,
+) -> bool
+    ensures { λ r. ⌜ r ≡ all Questions.hasSides (table (Lists.entryOf (now (widths .entry)) (now (heights .entry)) (now (hshifts .entry)) (now (vshifts .entry))) (step .begin) (step .number)) ⌝ }
+{
+    let begin = step.begin as usize;
+    let end = begin + step.number as usize;
+    for k in begin..end {
+        let c = entry_of(widths, heights, hshifts, vshifts, k);
+        if !has_sides(c) {
+            return false;
+        }
+    }
+    true
+}
+
+// Question 11, of the shifts.
+fn range_keeps_shifts<'a>(
+    widths: &'a [u32; 256],
+    heights: &'a [u32; 256],
+    hshifts: &'a [u8; 256],
+    vshifts: &'a [u8; 256],
+    step: Step,
+) -> bool
+    ensures { λ r. ⌜ r ≡ all (Questions.shiftsKept (step .horizontal)) (table (Lists.entryOf (now (widths .entry)) (now (heights .entry)) (now (hshifts .entry)) (now (vshifts .entry))) (step .begin) (step .number)) ⌝ }
+{
+    let begin = step.begin as usize;
+    let end = begin + step.number as usize;
+    for k in begin..end {
+        let c = entry_of(widths, heights, hshifts, vshifts, k);
+        if !keeps_shifts(c, step.horizontal) {
+            return false;
+        }
+    }
+    true
+}
+
+// Questions 7 to 11, of a step on the list that lent arrays hold.
+fn judge_step<'a>(
+    count: usize,
+    widths: &'a [u32; 256],
+    heights: &'a [u32; 256],
+    hshifts: &'a [u8; 256],
+    vshifts: &'a [u8; 256],
+    step: Step,
+) -> u32
+    ensures { λ r. ⌜ r ≡ Questions.judgeStep step (Lists.channels (Lists.lent count (now (widths .entry)) (now (heights .entry)) (now (hshifts .entry)) (now (vshifts .entry)) [])) ⌝ }
+{
+    if !range_allowed(count, step) {
+        return REFUSED_RANGE;
+    }
+    if !kinds_alike(widths, heights, hshifts, vshifts, step) {
+        return REFUSED_KINDS;
+    }
+    if !place_allowed(widths, heights, hshifts, vshifts, step) {
+        return REFUSED_PLACE;
+    }
+    if !range_has_sides(widths, heights, hshifts, vshifts, step) {
+        return REFUSED_EMPTY;
+    }
+    let after = meant(count) + step.number as usize;
+    if ChannelList::MAX_CHANNELS < after {
+        return REFUSED_ROOM;
+    }
+    if !range_keeps_shifts(widths, heights, hshifts, vshifts, step) {
+        return REFUSED_ROOM;
+    }
+    0
+}
+
+// Where the residuals start in the list that a step leaves.
+fn residuals_at(count: usize, step: Step) -> usize
+    ensures { λ r. ⌜ r ≡ cond (step .inplace) (step .begin + step .number) (min count Lists.maxChannels) ⌝ }
+{
+    if step.inplace {
+        step.begin as usize + step.number as usize
+    } else {
+        meant(count)
+    }
+}
+
+// The list that a step leaves of the one that lent arrays hold: each channel has
+// the origin of the one that it is made of.
+fn next_list<'a>(
+    count: usize,
+    widths: &'a [u32; 256],
+    heights: &'a [u32; 256],
+    hshifts: &'a [u8; 256],
+    vshifts: &'a [u8; 256],
+    origins: &'a [u8; 256],
+    step: Step,
+) -> ChannelList
+    requires { ⌜ StepAccepted step (Lists.channels (Lists.lent count (now widths) (now heights) (now hshifts) (now vshifts) (now origins))) ⌝ }
+    ensures { λ r. ⌜ r ≡ Lists.nextList step (Lists.lent count (now (widths .entry)) (now (heights .entry)) (now (hshifts .entry)) (now (vshifts .entry)) (now (origins .entry))) ⌝ }
+{
+    let after = meant(count) + step.number as usize;
+    let residuals = residuals_at(count, step);
+    let mut next_widths = [0u32; 256];
+    let mut next_heights = [0u32; 256];
+    let mut next_hshifts = [0u8; 256];
+    let mut next_vshifts = [0u8; 256];
+    let mut next_origins = [0u8; 256];
+    for k in 0..after {
+        let j = source(step, residuals, k);
+        let from = entry_of(widths, heights, hshifts, vshifts, j);
+        let origin = byte_at(origins, j);
+        let c = entry(from, step, residuals, k);
+        store(
+            c,
+            origin,
+            k,
+            &mut next_widths,
+            &mut next_heights,
+            &mut next_hshifts,
+            &mut next_vshifts,
+            &mut next_origins,
+        );
+    }
+    ChannelList {
+        count: after,
+        widths: next_widths,
+        heights: next_heights,
+        hshifts: next_hshifts,
+        vshifts: next_vshifts,
+        origins: next_origins,
+    }
+}
+
 impl ChannelList {
     pub const MAX_CHANNELS: usize = 256;
 
@@ -265,11 +451,7 @@ impl ChannelList {
     pub fn len(self) -> usize
         ensures { λ r. ⌜ r ≡ min (self .count) Lists.maxChannels ⌝ }
     {
-        if self.count < ChannelList::MAX_CHANNELS {
-            self.count
-        } else {
-            ChannelList::MAX_CHANNELS
-        }
+        meant(self.count)
     }
 
     // Question 4.
@@ -323,99 +505,6 @@ impl ChannelList {
         0
     }
 
-    // Question 7.
-    fn range_allowed(self, step: Step) -> bool
-        ensures { λ r. ⌜ r ≡ Questions.rangeAllowed step (Lists.channels self) ⌝ }
-    {
-        let end = step.begin as usize + step.number as usize;
-        (1 <= step.number) & (end <= self.len())
-    }
-
-    // Question 8.
-    fn kinds_alike(self, step: Step) -> bool
-        requires { ⌜ Questions.rangeAllowed step (Lists.channels self) ≡ true ⌝ }
-        ensures { λ r. ⌜ r ≡ Questions.kindsAlike step (Lists.channels self) ⌝ }
-    {
-        let k = step.begin as usize;
-        let m = k + step.number as usize - 1;
-        let first = entry_of(&self.widths, &self.heights, &self.hshifts, &self.vshifts, k);
-        let last = entry_of(&self.widths, &self.heights, &self.hshifts, &self.vshifts, m);
-        first.is_meta() == last.is_meta()
-    }
-
-    // Question 9.
-    fn place_allowed(self, step: Step) -> bool
-        requires { ⌜ Questions.rangeAllowed step (Lists.channels self) ≡ true ⌝ }
-        ensures { λ r. ⌜ r ≡ Questions.placeAllowed step (Lists.channels self) ⌝ }
-    {
-        let k = step.begin as usize;
-        let first = entry_of(&self.widths, &self.heights, &self.hshifts, &self.vshifts, k);
-        !first.is_meta() | step.inplace
-    }
-
-    // Question 10.
-    fn range_has_sides(self, step: Step) -> bool
-        requires { ⌜ Questions.rangeAllowed step (Lists.channels self) ≡ true ⌝ }
-        ensures { λ r. ⌜ r ≡ all Questions.hasSides (Lists.range step (Lists.channels self)) ⌝ }
-    {
-        let begin = step.begin as usize;
-        let end = begin + step.number as usize;
-        for k in begin..end {
-            let c = entry_of(&self.widths, &self.heights, &self.hshifts, &self.vshifts, k);
-            if !has_sides(c) {
-                return false;
-            }
-        }
-        true
-    }
-
-    // Question 11, of the shifts.
-    fn range_keeps_shifts(self, step: Step) -> bool
-        requires { ⌜ Questions.rangeAllowed step (Lists.channels self) ≡ true ⌝ }
-        ensures { λ r. ⌜ r ≡ all (Questions.shiftsKept (step .horizontal)) (Lists.range step (Lists.channels self)) ⌝ }
-    {
-        let begin = step.begin as usize;
-        let end = begin + step.number as usize;
-        for k in begin..end {
-            let c = entry_of(&self.widths, &self.heights, &self.hshifts, &self.vshifts, k);
-            if !keeps_shifts(c, step.horizontal) {
-                return false;
-            }
-        }
-        true
-    }
-
-    // Question 11.
-    fn room_left(self, step: Step) -> bool
-        requires { ⌜ Questions.rangeAllowed step (Lists.channels self) ≡ true ⌝ }
-        ensures { λ r. ⌜ r ≡ Questions.roomLeft step (Lists.channels self) ⌝ }
-    {
-        let count = self.len() + step.number as usize;
-        (count <= ChannelList::MAX_CHANNELS) & self.range_keeps_shifts(step)
-    }
-
-    // Questions 7 to 11.
-    fn judge_step(self, step: Step) -> u32
-        ensures { λ r. ⌜ r ≡ Questions.judgeStep step (Lists.channels self) ⌝ }
-    {
-        if !self.range_allowed(step) {
-            return REFUSED_RANGE;
-        }
-        if !self.kinds_alike(step) {
-            return REFUSED_KINDS;
-        }
-        if !self.place_allowed(step) {
-            return REFUSED_PLACE;
-        }
-        if !self.range_has_sides(step) {
-            return REFUSED_EMPTY;
-        }
-        if !self.room_left(step) {
-            return REFUSED_ROOM;
-        }
-        0
-    }
-
     // Questions 3 to 5 of the list, then 7 to 11 of the step on it.
     pub fn check_squeeze_params(self, step: Step) -> u32
         ensures { λ r. ⌜ r ≡ Questions.stepAnswer step self ⌝ }
@@ -424,57 +513,14 @@ impl ChannelList {
         if answer != 0 {
             return answer;
         }
-        self.judge_step(step)
-    }
-
-    // Where the residuals start in the list that a step leaves.
-    fn residuals_at(self, step: Step) -> usize
-        ensures { λ r. ⌜ r ≡ cond (step .inplace) (step .begin + step .number) (min (self .count) Lists.maxChannels) ⌝ }
-    {
-        if step.inplace {
-            step.begin as usize + step.number as usize
-        } else {
-            self.len()
-        }
-    }
-
-    // The list that a step leaves: each channel has the origin of the one that it
-    // is made of.
-    fn stepped(self, step: Step) -> ChannelList
-        requires { ⌜ StepAccepted step (Lists.channels self) ⌝ }
-        ensures { λ r. ⌜ r ≡ Lists.nextList step self ⌝ }
-    {
-        let count = self.len() + step.number as usize;
-        let residuals = self.residuals_at(step);
-        let mut widths = [0u32; 256];
-        let mut heights = [0u32; 256];
-        let mut hshifts = [0u8; 256];
-        let mut vshifts = [0u8; 256];
-        let mut origins = [0u8; 256];
-        for k in 0..count {
-            let j = source(step, residuals, k);
-            let from = entry_of(&self.widths, &self.heights, &self.hshifts, &self.vshifts, j);
-            let origin = byte_at(&self.origins, j);
-            let c = entry(from, step, residuals, k);
-            store(
-                c,
-                origin,
-                k,
-                &mut widths,
-                &mut heights,
-                &mut hshifts,
-                &mut vshifts,
-                &mut origins,
-            );
-        }
-        ChannelList {
-            count,
-            widths,
-            heights,
-            hshifts,
-            vshifts,
-            origins,
-        }
+        judge_step(
+            self.count,
+            &self.widths,
+            &self.heights,
+            &self.hshifts,
+            &self.vshifts,
+            step,
+        )
     }
 
     // The next list, or the refusal's number beside the list as it came, by
@@ -482,13 +528,28 @@ impl ChannelList {
     pub fn step_on(self, step: Step) -> Stepped
         ensures { λ r. ⌜ r ≡ Questions.takenOn step self ⌝ }
     {
-        let answer = self.judge_step(step);
+        let answer = judge_step(
+            self.count,
+            &self.widths,
+            &self.heights,
+            &self.hshifts,
+            &self.vshifts,
+            step,
+        );
         if answer != 0 {
             return Stepped { answer, list: self };
         }
         Stepped {
             answer: 0,
-            list: self.stepped(step),
+            list: next_list(
+                self.count,
+                &self.widths,
+                &self.heights,
+                &self.hshifts,
+                &self.vshifts,
+                &self.origins,
+                step,
+            ),
         }
     }
 

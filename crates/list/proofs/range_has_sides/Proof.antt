@@ -1,21 +1,22 @@
 -- `range_has_sides` meets its contract: what is left of the range answers for the whole. Assumes nothing.
-use mathlib.Core.Path.{_≡_, refl, _∙_}
-use Prim.Native.Nat.{_-_}
+use mathlib.Core.Path.{_≡_, refl, ap, _∙_}
+use Prim.Native.Nat.{ℕ, _+_, _-_}
+use native.Mathlib.Omega.{arith}
 use borrow.Author.Needs.{needs}
 use borrow.Author.Tests.{not-true, not-false}
 use Rattle.list.specs.Tables.{table, all}
-use Rattle.list.specs.Lists.{channelAt, channels}
+use Rattle.list.specs.Lists.{entryOf}
 use Rattle.list.specs.Questions.{hasSides}
 use Rattle.list.proofs.Tables.{table-none, all-stop, all-next}
-use Rattle.list.proofs.Channels.{range-inside, channels-range}
-use Rattle.list.proofs.ChannelList.range_has_sides.Statement.{statement}
-use Rattle.list.proofs.ChannelList.range_has_sides.Tie as tie
+use Rattle.list.proofs.range_has_sides.Statement.{statement}
+use Rattle.list.proofs.range_has_sides.Tie as tie
 
 abbrev Inv-loop : tie.InvT-loop
-Inv-loop self begin end k₀ k = all hasSides (table (channelAt self) k (end - k)) ≡ all hasSides (table (channelAt self) begin (end - begin))
+Inv-loop widths heights hshifts vshifts begin end k₀ k =
+    all hasSides (table (entryOf widths heights hshifts vshifts) k (end - k)) ≡ all hasSides (table (entryOf widths heights hshifts vshifts) begin (end - begin))
 
 abbrev μ-loop : tie.MeasureT-loop
-μ-loop self begin end k₀ k = end - k
+μ-loop widths heights hshifts vshifts begin end k₀ k = end - k
 
 cast-begin : tie.Need-cast-begin Inv-loop μ-loop
 cast-begin c = search needs
@@ -35,20 +36,22 @@ entry-of-requires c κs = search needs
 has-sides-requires : tie.Need-has-sides-requires Inv-loop μ-loop
 has-sides-requires c κs = search needs
 
--- the turn of the loop in which a channel was found
-abbrev turn : tie.After-entry-of Inv-loop μ-loop → tie.In-loop Inv-loop μ-loop
-turn c = c .before .before .before .before .before .before
+-- as many as the step's number
+whole : (b n : ℕ) → b + n - b ≡ n
+whole b n = omega arith
 
 returns : tie.Need-returns Inv-loop μ-loop
 returns c =
     let t = c .before .has-sides in
     let v = c .before .before in
-    let q = turn v in
+    let q = v .before in
     let s = q .before .before .before .before in
-    rw (channels-range (s .args .t1) (s .args .step) (range-inside (s .args .step) (channels (s .args .t1)) (s .pre) .1))
-    (all-stop (channelAt (s .args .t1)) hasSides (q .before .loop .k) _ (v .entry-of .result) (t .result) (q .loop-test .taken) (v .entry-of .ensures) (t .ensures)
+    let a = s .args in
+    let e = entryOf (a .widths .now) (a .heights .now) (a .hshifts .now) (a .vshifts .now) in
+    all-stop e hasSides (q .before .loop .k) _ (v .entry-of .result) (t .result) (q .loop-test .taken) (v .entry-of .ensures) (t .ensures)
     (not-true (t .result) (c .if1 .taken))
-    ∙ q .before .loop .inv)
+    ∙ q .before .loop .inv
+    ∙ ap (λ (n : ℕ). all hasSides (table e (a .step .begin) n)) (whole (a .step .begin) (a .step .number))
 
 add-k : tie.Need-add-k Inv-loop μ-loop
 add-k c = search needs
@@ -60,18 +63,21 @@ loop-again : tie.Need-loop-again Inv-loop μ-loop
 loop-again c =
     let t = c .before .has-sides in
     let v = c .before .before in
-    let q = turn v in
+    let q = v .before in
     let s = q .before .before .before .before in
-    all-next (channelAt (s .args .t1)) hasSides (q .before .loop .k) _ (v .entry-of .result) (t .result) (q .loop-test .taken) (v .entry-of .ensures) (t .ensures)
-    (not-false (t .result) (c .if1 .left))
+    let a = s .args in
+    all-next (entryOf (a .widths .now) (a .heights .now) (a .hshifts .now) (a .vshifts .now)) hasSides (q .before .loop .k) _ (v .entry-of .result) (t .result) (q .loop-test .taken)
+    (v .entry-of .ensures) (t .ensures) (not-false (t .result) (c .if1 .left))
     ∙ q .before .loop .inv
 
 returns-2 : tie.Need-returns-2 Inv-loop μ-loop
 returns-2 c =
     let q = c .before in
     let s = q .before .before .before in
-    rw (channels-range (s .args .t1) (s .args .step) (range-inside (s .args .step) (channels (s .args .t1)) (s .pre) .1))
-    (rw (table-none (channelAt (s .args .t1)) (q .loop .k) _ (c .loop-test .left)) at (q .loop .inv))
+    let a = s .args in
+    let e = entryOf (a .widths .now) (a .heights .now) (a .hshifts .now) (a .vshifts .now) in
+    (rw (table-none e (q .loop .k) _ (c .loop-test .left)) at (q .loop .inv))
+    ∙ ap (λ (n : ℕ). all hasSides (table e (a .step .begin) n)) (whole (a .step .begin) (a .step .number))
 
 pub range-has-sides-spec : {M : Type 1} → statement M
 range-has-sides-spec =
