@@ -52,7 +52,8 @@ pub record WholeRuns : Type 0 where
 abbrev pub withOrigins : List ℕ → ChannelList → ChannelList
 withOrigins os l = lent (l .count) (l .widths) (l .heights) (l .hshifts) (l .vshifts) os
 
--- has the same channels, is judged alike, and every call gives the same but for a single step's origins and a refused list, which comes back as it came
+-- has the same channels and is judged alike, and the calls below give the same, but for a single step's origins and a refused list, which comes back as it
+-- came
 pub record OnlyOrigins (os : List ℕ) (l : ChannelList) : Type 0 where
   pub same : channels (withOrigins os l) ≡ channels l
   pub judged : judgeList (withOrigins os l) ≡ judgeList l
