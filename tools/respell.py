@@ -139,8 +139,11 @@ def main(argv):
             if f.endswith(".rt"):
                 functions |= set(re.findall(r"\bfn (\w+)", open(os.path.join(folder, f), encoding="utf-8").read()))
 
+    def code_all(name, text, m):
+        return name if name in functions and text[m.start() - 1 : m.start()] == "." else rows[name]
+
     def code(text):
-        return word.sub(lambda m: m.group(1) if m.group(1) in functions and text[m.start() - 1 : m.start()] == "." else rows[m.group(1)], text)
+        return word.sub(lambda m: code_all(m.group(1), text, m), text)
 
     in_rt = {n: t for n, t in rows.items() if re.search("[A-Z-]", n)}
     rt_word = swap(in_rt)
@@ -149,6 +152,15 @@ def main(argv):
         return rt_word.sub(lambda m: in_rt[m.group(1)], text)
 
     def antt(text):
+        # what a library calls so keeps its name in a file that imports it
+        kept = set()
+        for m in re.finditer(r"^use ([\w.]+)\.\{([^}]*)\}", text, re.M):
+            if not re.match(r"Rattle\.(?!std\b|core\b)", m.group(1)):
+                kept |= {w.strip() for w in m.group(2).split(",")} & set(rows)
+
+        def code(t):
+            return word.sub(lambda m: m.group(1) if m.group(1) in kept else code_all(m.group(1), t, m), t)
+
         lines = []
         for line in text.split("\n"):
             m = re.search(r"(?<!\S)--(?!\S*-\w)", line)

@@ -1,6 +1,8 @@
 // 32-bit sample arithmetic (document 01, "The pair"): sums that wrap, the
 // wrapped absolute value, half toward zero, and the upper half of a product.
 // Total: no function asks anything of its caller but the private `narrow`.
+#![tactic(auto)]
+
 ghost use Rattle.std.specs.Prelude.{◌≡◌, ◌<◌, pos};
 ghost use Rattle.std.specs.Int.Signed.{mag};
 ghost use Rattle.arith32.specs.Arith as Arith;

@@ -5,7 +5,7 @@ use mathlib.Core.List.{List, [], ◌∷◌}
 use Prim.Native.Nat.{ℕ}
 use native.Mathlib.Omega.{arith}
 use lib.Dec.{eqb}
-use borrow.Author.Tests.{eqb-true, not_true}
+use borrow.Author.Tests.{eqb-true, not-true}
 use Rattle.channel.specs.declared.Channel.{Channel}
 use Rattle.list.specs.Tables.{all}
 use Rattle.plan.proofs.Turns.{by_test}
@@ -68,7 +68,7 @@ read_as_before bytes b h t =
 -- ---- the bytes
 field_same : (c : Channel) → is_short c ≡ true → channel_field c ≡ short_field c
 unfolding channel_field
-field_same c h = rw (not_true (is_strip c) h)
+field_same c h = rw (not-true (is_strip c) h)
 
 fields_same : (cs : List Channel) → all is_short cs ≡ true → joined channel_field cs ≡ joined short_field cs
 fields_same [] h = refl

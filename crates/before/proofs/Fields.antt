@@ -1,6 +1,6 @@
 -- One field without tag 3: its questions are those of before, and what it holds fits 16 bits. Assumes nothing.
 use mathlib.Core.Path.{◌≡◌, refl, sym, ◌∙◌}
-use mathlib.Core.Bool.{Bool, true, false, ◌&&◌, ◌||◌, not, or-false, and_true, and_assoc, true≢false, false≢true}
+use mathlib.Core.Bool.{Bool, true, false, ◌&&◌, ◌||◌, not, or-false, and-true, and_assoc, true≢false, false≢true}
 use mathlib.Core.Logic.{inl, inr}
 use mathlib.Core.List.{List}
 use Prim.Native.Nat.{ℕ, ◌≤◌}
@@ -37,7 +37,7 @@ pub short_allowed : (c : Channel) → not (is_strip c) ≡ true → is_allowed c
 unfolding is_allowed
 short_allowed c h =
     let s = short_sides c h in
-    rw (sides_fit_lem c (omega arith) (omega arith)) (and_true (shifts_allowed c))
+    rw (sides_fit_lem c (omega arith) (omega arith)) (and-true (shifts_allowed c))
 
 -- ---- the field
 module _ (bytes : List ℕ) (b : AreBytes bytes) (t : has_strip_tag bytes ≡ false) where
@@ -64,7 +64,7 @@ module _ (bytes : List ℕ) (b : AreBytes bytes) (t : has_strip_tag bytes ≡ fa
   unfolding New.channel_allowed New.tag_allowed Before.channel_allowed
   allowed_same metas =
       rw (t, short_allowed (field_channel bytes) channel_short, channel_same)
-      (and_true (shifts_allowed (short_channel bytes) && (not (is_meta (short_channel bytes)) || metas)))
+      (and-true (shifts_allowed (short_channel bytes) && (not (is_meta (short_channel bytes)) || metas)))
 
   judge_channel_same : (channels : ℕ) (metas : Bool) → New.judge_channel_field bytes channels metas ≡ Before.judge_channel_field bytes channels metas
   unfolding New.judge_channel_field Before.judge_channel_field

@@ -6,7 +6,7 @@ use mathlib.Core.List.{List, [], ◌∷◌, ◌++◌}
 use Prim.Native.Nat.{ℕ, zero, suc, ◌≤◌}
 use lib.Dec.{eqb, leb}
 use lib.ListN.{length, drop}
-use borrow.Author.Tests.{eqb-true, leb-true, not_true}
+use borrow.Author.Tests.{eqb-true, leb-true, not-true}
 use Rattle.numbers.specs.Numbers.{refused_count}
 use Rattle.channel.specs.declared.Channel.{Channel}
 use Rattle.channel.specs.Channel.{is_meta, shifts_allowed, is_allowed}
@@ -38,7 +38,7 @@ no_strip_field : (turns : ℕ) (bytes : List ℕ) → eqb (length bytes) 0 ≡ f
     → (has_strip_tag bytes ≡ false) × (no_tag_in strip_tag turns (drop (field_size bytes) bytes) ≡ true)
 no_strip_field turns bytes e h =
     let a = (and-eq-true_iff (not (has_strip_tag bytes)) (no_tag_in strip_tag turns (drop (field_size bytes) bytes))).0 (rw e at h) in
-    (not_true (has_strip_tag bytes) a.0, a.1)
+    (not-true (has_strip_tag bytes) a.0, a.1)
 
 -- where the fields after this one are read as before, so are these
 module _ (turns : ℕ) (bytes : List ℕ) (cs : List Channel) (ss : List Step) (b : AreBytes bytes) (e : eqb (length bytes) 0 ≡ false) (t : has_strip_tag bytes ≡ false)

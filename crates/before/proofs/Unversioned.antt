@@ -1,7 +1,7 @@
 -- A record whose first field has not tag 4 is read, judged, meant and listed as before there were versions, and version 1 is written as then
 -- (specs/Laws.antt). Assumes nothing.
 use mathlib.Core.Path.{◌≡◌, refl, ap, ◌∙◌}
-use mathlib.Core.Bool.{true, false, and_true}
+use mathlib.Core.Bool.{true, false, and-true}
 use mathlib.Core.List.{List, [], ◌∷◌}
 use Prim.Native.Nat.{ℕ, zero, suc}
 use lib.Dec.{eqb, leb}
@@ -38,7 +38,7 @@ meant_then version e (s ∷ ss) cs = refl
 
 form_then : (l : ChannelList) (s : Steps) → Plans.judge_form standard_version l s ≡ Then.judge_form l s
 unfolding Versions.is_version Plans.judge_form Then.judge_form
-form_then l s = rw (and_true (all flags_allowed (all_flags s)))
+form_then l s = rw (and-true (all flags_allowed (all_flags s)))
 
 judge_then : (l : ChannelList) (s : Steps) → Plans.judge_plan standard_version l s ≡ Then.judge_plan l s
 unfolding Plans.judge_meant Plans.judge_plan Then.judge_meant Then.judge_plan

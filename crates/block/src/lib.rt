@@ -1,6 +1,8 @@
 // The block of eight (document 01, "Tiles"; it stands for the Rust's
 // `SimdDescriptor` vectors): four blocks of eight neighbouring samples by
 // value, an array of two blocks out, each lane the pair. Total.
+#![tactic(auto)]
+
 ghost use Rattle.std.specs.Prelude.{◌≡◌};
 ghost use Rattle.block.specs.Block.{unsqueezed};
 

@@ -1,5 +1,7 @@
 // Whole slices of samples copied and cleared, by loops that the compiler makes
 // one block move of. Total.
+#![tactic(auto)]
+
 ghost use Rattle.std.specs.Prelude.{◌≡◌, min};
 ghost use Rattle.buffer.specs.Buffer.{copied, zeros};
 

@@ -1,11 +1,13 @@
 // A channel of a picture (document 01, "The entry"): its sides, and its two
 // shifts, both 255 for a meta channel. Total on every value of the fields.
+#![tactic(auto)]
+
 ghost use Rattle.std.specs.Prelude.{◌≡◌};
 ghost use Rattle.channel.specs.Channel as Spec;
 
 use numbers::MAX_SIDE;
 
-#[derive(Drop)]
+#[derive(Clone, Copy)]
 pub struct Channel {
     pub width: u32,
     pub height: u32,

@@ -3,6 +3,8 @@
 // the rest singly. The rows of ordinary pairs first, then the last pair, whose
 // next row is chosen, and the row of tails. Total: where sizes or slices do not
 // fit the output stays as it was.
+#![tactic(auto)]
+
 ghost use Rattle.std.specs.Prelude.{◌≡◌, false, List, [], ◌⊎◌, ◌+◌, ◌-◌, ◌*◌, ◌<◌, ◌≤◌, ℤ, pos, length, get_or, take, drop};
 ghost use Rattle.std.proofs.Math.Seq.{paste};
 ghost use Rattle.line.specs.Uncut.{squeeze, uncut, Fitting};

@@ -2,6 +2,8 @@
 // pairs first, eight at a time while there are so many, the rest one by one;
 // then the last pair, whose next averages are chosen, and the tails. Total:
 // where sizes or slices do not fit the output stays as it was.
+#![tactic(auto)]
+
 mod lanes;
 
 ghost use Rattle.std.specs.Prelude.{◌≡◌, true, cond, List, [], ◌⊎◌, ℕ, ◌+◌, ◌-◌, ◌*◌, ◌<◌, ◌≤◌, ltb, ℤ, pos, length, get_or};

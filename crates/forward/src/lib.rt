@@ -3,6 +3,8 @@
 // the output as it was. Both are written together and row by row, so that a sample
 // is read from memory once, along the rows of the samples that the entries are
 // made of, in either direction.
+#![tactic(auto)]
+
 ghost use Rattle.std.specs.Prelude.{◌≡◌, true, false, ◌++◌, ◌+◌, ◌*◌, ◌/◌, ◌<◌, ◌≤◌, length, drop};
 ghost use Rattle.line.specs.Uncut.{place};
 ghost use Rattle.line.specs.Forward.{average_count, residual_count, average_at, next_at, prev_at, residual_at, line_in, averages_of, residuals_of};

@@ -1,10 +1,10 @@
 -- A question's answer, tested by code that returns at the first "no", what no refusal says of it, and what every answer has. Assumes nothing.
 use mathlib.Core.Path.{◌≡◌, refl, sym, ◌∙◌}
-use mathlib.Core.Bool.{Bool, true, false, cond, not}
+use mathlib.Core.Bool.{Bool, true, false, cond}
 use Prim.Native.Nat.{ℕ, suc}
 use native.Mathlib.Omega.{arith}
 use lib.Dec.{eqb}
-use borrow.Author.Tests.{not_true, not_false, eqb-true, eqb-false}
+use borrow.Author.Tests.{eqb-true, eqb-false}
 use Rattle.list.specs.Questions.{ask}
 
 -- what both have, a choice between them has
@@ -14,11 +14,11 @@ cond_has P false x y a b = b
 
 -- the code's r is the answer
 module _ {r answer : Bool} (e : r ≡ answer) where
-  pub no : not r ≡ true → answer ≡ false
-  no h = sym e ∙ not_true r h
+  pub no : r ≡ false → answer ≡ false
+  no h = sym e ∙ h
 
-  pub yes : not r ≡ false → answer ≡ true
-  yes h = sym e ∙ not_false r h
+  pub yes : r ≡ true → answer ≡ true
+  yes h = sym e ∙ h
 
 -- no refusal: the answer was "yes", and the next questions refuse nothing either
 pub passed : (answer : Bool) (number next : ℕ) → ask answer (suc number) next ≡ 0 → (answer ≡ true) × (next ≡ 0)

@@ -7,7 +7,7 @@ use Prim.Native.Nat.{ℕ, zero, suc, ◌+◌, ◌-◌, ◌<◌}
 use native.Mathlib.Omega.{arith}
 use lib.ListN.{length, take, drop, take-append-drop}
 use lib.Seq.{drop-nil}
-use borrow.Author.Tests.{not_true}
+use borrow.Author.Tests.{not-true}
 use Rattle.channel.specs.declared.Channel.{Channel}
 use Rattle.channel.specs.Channel.{is_meta, is_allowed}
 use Rattle.list.specs.Tables.{table, all}
@@ -51,7 +51,7 @@ module _ (f : ℕ → Channel) (k n : ℕ) (after a m : Bool) (v : Channel) (h :
 
 -- ---- joined lists
 plain_is : (c : Channel) → plain c ≡ true → is_meta c ≡ false
-plain_is c = not_true (is_meta c)
+plain_is c = not-true (is_meta c)
 
 first_plain : (c : Channel) (cs : List Channel) → is_meta c ≡ false → meta_first (c ∷ cs) ≡ all plain cs
 first_plain c cs e = rw e

@@ -1,6 +1,6 @@
 -- One channel under a step: its side and its shift in the step's direction. Assumes nothing.
 use mathlib.Core.Path.{◌≡◌, refl, sym, ap, ◌∙◌}
-use mathlib.Core.Bool.{Bool, true, false, cond, ◌&&◌, ◌||◌, and_comm, and-false, or_true, and-eq-true_iff}
+use mathlib.Core.Bool.{Bool, true, false, cond, ◌&&◌, ◌||◌, and_comm, and-false, or-true, and-eq-true_iff}
 use Prim.Native.Nat.{ℕ, ◌+◌, ◌<◌, ◌≤◌}
 use native.Mathlib.Omega.{arith}
 use lib.Dec.{leb, ltb}
@@ -106,7 +106,7 @@ meta_allowed c e = rw e
 
 low_allowed : (c : Channel) → (c.hshift ≤ max_shift) × (c.vshift ≤ max_shift) → shifts_allowed c ≡ true
 unfolding shifts_allowed
-low_allowed c b = rw (le-leb c.hshift max_shift b.0, le-leb c.vshift max_shift b.1) (or_true (is_meta c))
+low_allowed c b = rw (le-leb c.hshift max_shift b.0, le-leb c.vshift max_shift b.1) (or-true (is_meta c))
 
 module _ (g : ℕ → ℕ) (h : Bool) (c : Channel) where
   -- question 11 is question 4 of the part

@@ -4,6 +4,8 @@
 // on it, and the list that a step leaves; each channel has its origin (document
 // 02, A.4). Total: any count, any shift, any origin and any unused entry may come
 // in.
+#![tactic(auto)]
+
 ghost use Rattle.std.specs.Prelude.{◌≡◌, true, false, cond, ◌&&◌, ◌||◌, not, [], ◌+◌, ◌-◌, ◌<◌, ◌≤◌, min, leb, get_or};
 ghost use Rattle.channel.specs.Channel.{meta_shift, is_meta};
 ghost use Rattle.list.specs.Tables.{table, all};
@@ -18,7 +20,7 @@ use numbers::{
     REFUSED_ROOM, REFUSED_SAMPLES,
 };
 
-#[derive(Drop)]
+#[derive(Clone, Copy)]
 pub struct ChannelList {
     pub count: usize,
     pub widths: [u32; 256],
@@ -29,7 +31,7 @@ pub struct ChannelList {
 }
 
 // A squeeze step (the Rust's `SqueezeParams`).
-#[derive(Drop)]
+#[derive(Clone, Copy)]
 pub struct Step {
     pub horizontal: bool,
     pub inplace: bool,
@@ -39,7 +41,7 @@ pub struct Step {
 
 // The answer 0 with the next list, or a refusal's number with the list as it
 // was.
-#[derive(Drop)]
+#[derive(Clone, Copy)]
 pub struct Stepped {
     pub answer: u32,
     pub list: ChannelList,

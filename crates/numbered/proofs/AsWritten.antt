@@ -1,6 +1,6 @@
 -- A record from numbers is what the record's writer makes of their flat arrays (specs/Laws.antt), and a refusal keeps both slices. Assumes nothing.
 use mathlib.Core.Path.{◌≡◌, refl, sym, ◌∙◌}
-use mathlib.Core.Bool.{Bool, true, false, ◌&&◌, and_true}
+use mathlib.Core.Bool.{Bool, true, false, ◌&&◌, and-true}
 use mathlib.Core.List.{List, [], ◌∷◌}
 use Prim.Native.Nat.{ℕ, ◌<◌, ◌≤◌}
 use native.Mathlib.Omega.{arith}
@@ -38,7 +38,7 @@ module _ (version : ℕ) (ns ms bytes len : List ℕ) (wholes : (whole channel_n
   same_answer : write_answer version (list_of ns) (plan_of ms) bytes ≡ answer version ns ms bytes len
   unfolding W.write_answer answer slices_allowed
   same_answer =
-      rw (numbers_plan version ns ms, wholes, le-leb 1 (length len) room, and_true (leb (length (bytes_of version ns ms)) (length bytes)))
+      rw (numbers_plan version ns ms, wholes, le-leb 1 (length len) room, and-true (leb (length (bytes_of version ns ms)) (length bytes)))
       (go (eqb (judge_numbers version ns ms) 0) refl)
     where
       go : (t : Bool) → eqb (judge_numbers version ns ms) 0 ≡ t

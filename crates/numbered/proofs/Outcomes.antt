@@ -1,13 +1,13 @@
 -- What a record from numbers comes to (`answer`, `record_after` and `length_after` of specs/Numbered.antt), by the answers that the code has found on
 -- the way: questions 3 to 11, then 14, then what the record's writer gave. Assumes nothing.
 use mathlib.Core.Path.{◌≡◌, refl, sym, ap, ◌∙◌}
-use mathlib.Core.Bool.{Bool, true, false, not, cond, ◌&&◌, and_true, and-eq-true_iff}
+use mathlib.Core.Bool.{Bool, true, false, not, cond, ◌&&◌, and-true, and-eq-true_iff}
 use mathlib.Core.List.{List, [], ◌∷◌, ◌++◌}
 use Prim.Native.Nat.{ℕ, ◌≤◌}
 use native.Mathlib.Omega.{arith}
 use lib.Dec.{eqb, leb}
 use lib.ListN.{length, drop, set}
-use borrow.Author.Tests.{not_true, not_false, eqb-true, ne_eqb, leb-true}
+use borrow.Author.Tests.{not-true, not-false, eqb-true, ne_eqb, leb-true}
 use Rattle.numbers.specs.Numbers.{refused_length}
 use Rattle.list.specs.declared.ChannelList.{ChannelList}
 use Rattle.list.specs.Tables.{map}
@@ -60,7 +60,7 @@ slices ns ms len = (whole channel_numbers ns && whole step_numbers ms) && leb 1 
 
 module _ (ns ms len : List ℕ) (h : not (slices ns ms len) ≡ false) where
   parts : ((whole channel_numbers ns && whole step_numbers ms) ≡ true) × (leb 1 (length len) ≡ true)
-  parts = (and-eq-true_iff (whole channel_numbers ns && whole step_numbers ms) (leb 1 (length len))).0 (not_false (slices ns ms len) h)
+  parts = (and-eq-true_iff (whole channel_numbers ns && whole step_numbers ms) (leb 1 (length len))).0 (not-false (slices ns ms len) h)
 
   pub length_room : 1 ≤ length len
   length_room = leb-true 1 (length len) parts.1
@@ -106,7 +106,7 @@ module _ (version : ℕ) (ns ms bytes len : List ℕ) (a : ℕ) (ea : a ≡ judg
     unfolding slices_allowed
     slices_refused h =
         kept version ns ms bytes len refused_length
-        (asked ∙ go (whole channel_numbers ns && whole step_numbers ms) (leb 1 (length len)) (leb (length (bytes_of version ns ms)) (length bytes)) (not_true (slices ns ms len) h))
+        (asked ∙ go (whole channel_numbers ns && whole step_numbers ms) (leb 1 (length len)) (leb (length (bytes_of version ns ms)) (length bytes)) (not-true (slices ns ms len) h))
         (λ e. omega arith)
       where
         go : (x y b : Bool) → (x && y) ≡ false → ask (x && (b && y)) refused_length 0 ≡ refused_length
@@ -130,7 +130,7 @@ module _ (version : ℕ) (ns ms bytes len : List ℕ) (a : ℕ) (ea : a ≡ judg
       unfolding slices_allowed
       same_answer =
           asked
-          ∙ rw ((parts ns ms len h).0, (parts ns ms len h).1, and_true (leb (length (bytes_of version ns ms)) (length bytes))) (sym (write_asked version ns ms (sym ea ∙ z) bytes) ∙ writer_answer)
+          ∙ rw ((parts ns ms len h).0, (parts ns ms len h).1, and-true (leb (length (bytes_of version ns ms)) (length bytes))) (sym (write_asked version ns ms (sym ea ∙ z) bytes) ∙ writer_answer)
 
       pub writing_refused : (w.answer ≡ 0 → ⊥) → Results version ns ms bytes len w.answer out len
       writing_refused n =

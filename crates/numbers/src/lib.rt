@@ -1,5 +1,6 @@
 // The numbers of documents 01 and 02 that more than one crate uses: two limits, and
 // what each refusal answers. specs/Numbers.antt has the same for definitions.
+#![tactic(auto)]
 
 // A.8: "Raise a side's limit to 1,048,575, in tile calls too".
 pub const MAX_SIDE: usize = 1_048_575;

@@ -2,6 +2,8 @@
 // `unsqueeze_scalar`): two samples from an average and a residual between
 // their neighbours, and the writer's way back. Total on all 32-bit values;
 // that the two ways undo each other is proofs/Inverse.antt.
+#![tactic(auto)]
+
 ghost use Rattle.std.specs.Prelude.{◌≡◌};
 ghost use Rattle.arith32.specs.Arith.{◌⊖◌};
 ghost use Rattle.pair.specs.Pair as P;
@@ -9,14 +11,14 @@ ghost use Rattle.pair.specs.Pair as P;
 use arith32::{half, wrapping_add, wrapping_sub};
 use tendency::{smooth_tendency, smooth_tendency_lane};
 
-#[derive(Drop)]
+#[derive(Clone, Copy)]
 pub struct Pair {
     pub first: i32,
     pub second: i32,
 }
 
 // What the writer makes of two samples before it knows their neighbours.
-#[derive(Drop)]
+#[derive(Clone, Copy)]
 pub struct Averaged {
     pub average: i32,
     pub difference: i32,

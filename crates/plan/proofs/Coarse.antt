@@ -1,12 +1,12 @@
 -- The laws of the coarse count (specs/Coarse.antt). Rests on laws of `leading`, whatever the test is. Assumes nothing.
 use mathlib.Core.Path.{◌≡◌, refl, sym, ap, ◌∙◌}
-use mathlib.Core.Bool.{Bool, true, false, not, cond, true≢false, and-eq-true_iff, or_true}
+use mathlib.Core.Bool.{Bool, true, false, not, cond, true≢false, and-eq-true_iff, or-true}
 use mathlib.Core.List.{List, [], ◌∷◌}
 use Prim.Native.Nat.{ℕ, zero, suc, ◌+◌, ◌<◌, ◌≤◌}
 use native.Mathlib.Omega.{arith}
 use lib.Dec.{leb, ltb}
 use lib.ListN.{length, drop}
-use borrow.Author.Tests.{not_true, leb-true, le-leb, ltb-true, ltb-false}
+use borrow.Author.Tests.{not-true, leb-true, le-leb, ltb-true, ltb-false}
 use Rattle.channel.specs.declared.Channel.{Channel}
 use Rattle.channel.specs.Channel.{is_meta}
 use Rattle.list.specs.Tables.{all}
@@ -86,7 +86,7 @@ module _ (stop : ℕ) where
   -- "what it was"
   pub no_meta_count : (cs : List Channel) → no_meta cs ≡ true → coarse_count stop cs ≡ leading (is_small stop) cs
   unfolding coarse_count
-  no_meta_count = leading_same (is_coarse stop) (is_small stop) (λ c. not (is_meta c)) (λ c e. plain_coarse c (not_true (is_meta c) e))
+  no_meta_count = leading_same (is_coarse stop) (is_small stop) (λ c. not (is_meta c)) (λ c e. plain_coarse c (not-true (is_meta c) e))
 
   small_sides : (c : Channel) → is_small stop c ≡ true → (c.width ≤ stop) × (c.height ≤ stop)
   small_sides c e =
@@ -98,7 +98,7 @@ module _ (stop : ℕ) where
 
   pub small_coarse : (c : Channel) → (c.width ≤ stop) × (c.height ≤ stop) → is_coarse stop c ≡ true
   unfolding is_coarse
-  small_coarse c s = rw (sides_small_lem c s) (or_true (is_meta c))
+  small_coarse c s = rw (sides_small_lem c s) (or-true (is_meta c))
 
   all_small : (cs : List Channel) → coarse_count stop cs ≡ length cs → OthersSmall stop cs
   unfolding coarse_count

@@ -19,7 +19,7 @@ use channel::Channel;
 use list::{ChannelList, Step, Stepped, entry_of, halved, store};
 use numbers::{REFUSED_COUNT, REFUSED_DEFAULT, REFUSED_FORM};
 
-#[derive(Drop)]
+#[derive(Clone, Copy)]
 pub struct Steps {
     pub count: usize,
     pub flags: [u8; 64],
@@ -28,7 +28,7 @@ pub struct Steps {
 }
 
 // The answer 0 with a plan, or a refusal's number without a step.
-#[derive(Drop)]
+#[derive(Clone, Copy)]
 pub struct Planned {
     pub answer: u32,
     pub steps: Steps,
@@ -37,21 +37,21 @@ pub struct Planned {
 // What a plan version says of its default plan: the side at which it stops, up
 // to which a channel that is not meta is coarse, and whether it has chroma steps
 // first.
-#[derive(Drop)]
+#[derive(Clone, Copy)]
 struct DefaultRule {
     stop: u32,
     chroma: bool,
 }
 
 // The answer 0 with a coarse count, or a refusal's number and 0.
-#[derive(Drop)]
+#[derive(Clone, Copy)]
 pub struct CoarseCount {
     pub answer: u32,
     pub count: usize,
 }
 
 // The channels that are counted from the front of a list.
-#[derive(Drop)]
+#[derive(Clone, Copy)]
 enum Counted {
     Meta,
     Coarse,

@@ -2,6 +2,8 @@
 // what bench/pair.sh disassembles, counts and compares with plain Rust; the
 // terminal software does not call them. Total: a slice of another length than
 // the one named is left as it is.
+#![tactic(auto)]
+
 ghost use Rattle.std.specs.Prelude.{◌≡◌};
 ghost use Rattle.arith32.specs.Arith.{◌⊕◌};
 ghost use Rattle.probe.specs.Probe as Probe;

@@ -102,7 +102,7 @@ fn channel_back(c: Channel, horizontal: bool, avg: &[i32], res: &[i32], out: &mu
 
 // Where an average or a residual lies: its start in the pyramid, or at its home
 // if a step has made it.
-#[derive(Drop)]
+#[derive(Clone, Copy)]
 struct Source {
     made: bool,
     start: usize,

@@ -1,6 +1,6 @@
 -- One channel more, in the arrays that hold a list (specs/Adding.antt) and in "meta channels first". Assumes nothing.
 use mathlib.Core.Path.{◌≡◌, refl, sym, ap, ◌∙◌}
-use mathlib.Core.Bool.{Bool, true, false, ◌&&◌, ◌||◌, not, and_true, and_assoc, and-eq-true_iff, false≢true}
+use mathlib.Core.Bool.{Bool, true, false, ◌&&◌, ◌||◌, not, and-true, and_assoc, and-eq-true_iff, false≢true}
 use mathlib.Core.List.{List, [], ◌∷◌, ◌++◌}
 use Prim.Native.Nat.{ℕ, ◌+◌, ◌<◌}
 use native.Mathlib.Omega.{arith}
@@ -21,7 +21,7 @@ map_snoc f [] x = refl
 map_snoc f (y ∷ xs) x = ap (◌∷◌ (f y)) (map_snoc f xs x)
 
 all_snoc {ℓ} : {A : Type ℓ} (p : A → Bool) (xs : List A) (x : A) → all p (xs ++ x ∷ []) ≡ (all p xs && p x)
-all_snoc p [] x = and_true (p x)
+all_snoc p [] x = and-true (p x)
 all_snoc p (y ∷ xs) x = ap (λ (b : Bool). p y && b) (all_snoc p xs x) ∙ sym (and_assoc (p y) (all p xs) (p x))
 
 -- "meta channels first": the last channel's kind tells whether all are meta

@@ -1,6 +1,6 @@
 -- A record that the writer makes reads as what it was made of: each field is accepted and gives its channel or step. Assumes nothing.
 use mathlib.Core.Path.{◌≡◌, refl, sym, ap, ◌∙◌}
-use mathlib.Core.Bool.{Bool, true, false, cond, ◌&&◌, ◌||◌, not, or_true, and-eq-true_iff, not-not, true≢false, false≢true}
+use mathlib.Core.Bool.{Bool, true, false, cond, ◌&&◌, ◌||◌, not, or-true, and-eq-true_iff, not-not, true≢false, false≢true}
 use mathlib.Core.List.{List, [], ◌∷◌, ◌++◌, append-nil, append_assoc}
 use Prim.Native.Nat.{ℕ, zero, suc, ◌+◌, ◌<◌, ◌≤◌}
 use native.Mathlib.Omega.{arith}
@@ -71,7 +71,7 @@ module _ (s : Step) (rest : List ℕ) (fits : StepFits s) where
   step_judged : (channels : ℕ) (metas : Bool) (steps : ℕ) → steps < max_steps → judge_field (step_field s ++ rest) channels metas steps ≡ 0
   unfolding step_field judge_field judge_step_field
   step_judged channels metas steps h =
-      rw (is_inside_lem (step_field s ++ rest) (omega arith) (omega arith), step_known, or_true (is_channel (step_field s ++ rest) steps), lt-ltb steps max_steps h, flags_allowed_lem s)
+      rw (is_inside_lem (step_field s ++ rest) (omega arith) (omega arith), step_known, or-true (is_channel (step_field s ++ rest) steps), lt-ltb steps max_steps h, flags_allowed_lem s)
 
   step_rest : drop (field_size (step_field s ++ rest)) (step_field s ++ rest) ≡ rest
   unfolding step_field

@@ -19,7 +19,7 @@ use plan::Steps;
 
 // The answer 0 with a plan version, a list and its steps, or a refusal's number
 // with none of them.
-#[derive(Drop)]
+#[derive(Clone, Copy)]
 pub struct Record {
     pub answer: u32,
     pub version: u32,
@@ -28,7 +28,7 @@ pub struct Record {
 }
 
 // The answer 0 with the record's length, or a refusal's number.
-#[derive(Drop)]
+#[derive(Clone, Copy)]
 pub struct Written {
     pub answer: u32,
     pub length: usize,

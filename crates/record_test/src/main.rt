@@ -42,7 +42,7 @@ const TRIALS: usize = 6;
 const LONGER: usize = 5;
 
 // How many numbers the slices of a layout call have.
-#[derive(Drop)]
+#[derive(Clone, Copy)]
 struct Lengths {
     counts: usize,
     steps: usize,

@@ -2,6 +2,8 @@
 // Rust's `get_grid_rect` and `grid_dim`). `get_grid_rect` is total: question
 // 4, then 13, and no other; where the Rust panics the answer is a refusal's
 // number. Its private helpers work on what those questions let through.
+#![tactic(auto)]
+
 ghost use Rattle.std.specs.Prelude.{◌≡◌, true, ◌-◌, ◌≤◌, ◌<◌, min};
 ghost use Rattle.rect.specs.Rect as Spec;
 ghost use Rattle.rect.specs.Parts as Parts;
@@ -14,7 +16,7 @@ use numbers::{REFUSED_FORM, REFUSED_TILE};
 const LF_GROUPS: u32 = 8;
 
 // The answer 0 with a rectangle, or a refusal's number with four zeros.
-#[derive(Drop)]
+#[derive(Clone, Copy)]
 pub struct GridRect {
     pub answer: u32,
     pub x: u32,
@@ -24,7 +26,7 @@ pub struct GridRect {
 }
 
 // One direction of a tile: where it starts in what is stored, and its size.
-#[derive(Drop)]
+#[derive(Clone, Copy)]
 struct Span {
     start: u32,
     size: u32,
@@ -32,7 +34,7 @@ struct Span {
 
 // Where a tile starts in what is stored: at 0, at its start in the channel
 // itself, or at that start's place within the LF tile.
-#[derive(Drop)]
+#[derive(Clone, Copy)]
 enum StoredStart {
     Zero,
     Itself,

@@ -1,5 +1,7 @@
 // How a test program reads its cases, one after the other, from standard input,
 // and says how many came out right. No contract can say what is read or written.
+#![tactic(auto)]
+
 ghost use Rattle.std.specs.Prelude.{◌≤◌, length};
 
 use libc::{STDIN_FILENO, STDOUT_FILENO};

@@ -1,6 +1,8 @@
 // Horizontal: lines are rows. Eight rows at a time go through the block, the
 // rest singly. Total: where sizes or slices do not fit the output stays as it
 // was.
+#![tactic(auto)]
+
 mod one;
 
 ghost use Rattle.std.specs.Prelude.{◌≡◌, true, ◌++◌, ◌⊎◌, ◌+◌, ◌-◌, ◌*◌, ◌<◌, ◌≤◌, length, take, drop};

@@ -40,7 +40,7 @@ const TRIALS: usize = 7;
 
 // A call: the function, the answer that it must give, and the lengths of the
 // slices that are read, filled and for work.
-#[derive(Drop)]
+#[derive(Clone, Copy)]
 struct Call {
     rebuilds: bool,
     answer: u32,

@@ -1,6 +1,8 @@
 // What the test programs share: numbers and samples as files store them, four
 // bytes each, least byte first; and marks, which show in a room for samples
 // where nothing was written. Total.
+#![tactic(auto)]
+
 ghost use Rattle.std.specs.Prelude.{◌≡◌, ◌<◌, ◌≤◌, length};
 ghost use Rattle.samples.specs.Samples.{byte_at, word_at, sample_at, stored};
 ghost use Rattle.samples.specs.Rooms.{Holds, Exactly};

@@ -1,6 +1,6 @@
 -- The tests of two signs, as `opposite` and `turns` make them. Rests on the whole numbers of arith32. Assumes nothing.
 use mathlib.Core.Path.{◌≡◌, refl, sym}
-use mathlib.Core.Bool.{Bool, true, false, not, ◌&&◌, ◌||◌, beq, or-false, or_true, and-false}
+use mathlib.Core.Bool.{Bool, true, false, not, ◌&&◌, ◌||◌, beq, or-false, or-true, and-false}
 use Prim.Native.Nat.{zero, suc, ◌-◌, ◌<◌}
 use native.Mathlib.Omega.{arith}
 use borrow.Author.Tests.{lt-ltb, ne_eqb}
@@ -21,7 +21,7 @@ not_above x h = is_not_less (pos 0) x (omega (arith, less x (pos 0) h))
 -- a sample whose bits are not 0 lies below zero or above it
 not_zero : (x : ℤ) → Sample x → not (eqb (of_z w32 x) 0) ≡ lt_z x (pos 0) || lt_z (pos 0) x
 not_zero (pos zero) f = refl
-not_zero (pos (suc n)) f = rw (ne_eqb (suc n) 0 (λ (e : suc n ≡ 0). omega arith), lt-ltb 0 (suc n) (omega arith), or_true (ltb (suc n) 0))
+not_zero (pos (suc n)) f = rw (ne_eqb (suc n) 0 (λ (e : suc n ≡ 0). omega arith), lt-ltb 0 (suc n) (omega arith), or-true (ltb (suc n) 0))
 not_zero (negsuc n) f =
     let h : n < 2147483648 = f.sfits in
     rw (ne_eqb (4294967296 - suc n) 0 (λ (e : 4294967296 - suc n ≡ 0). omega arith))

@@ -2,6 +2,8 @@
 // Rust's `smooth_tendency_impl`), in two forms equal to one definition: one
 // that returns early on a turn, for a line taken pair by pair, and one without
 // a branch, for the lanes of a block. Total on all 32-bit values.
+#![tactic(auto)]
+
 ghost use Rattle.std.specs.Prelude.{◌≡◌};
 ghost use Rattle.tendency.specs.Tendency as Tend;
 

@@ -9,7 +9,7 @@ ghost use Rattle.tile.specs.Call as Call;
 use numbers::{MAX_SAMPLES, MAX_SIDE, REFUSED_LENGTH, REFUSED_SAMPLES, REFUSED_SIZES};
 
 // Width and height of a rectangle.
-#[derive(Drop)]
+#[derive(Clone, Copy)]
 pub struct Sides {
     pub width: usize,
     pub height: usize,

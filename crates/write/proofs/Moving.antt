@@ -6,7 +6,7 @@ use mathlib.Core.List.{List}
 use mathlib.Core.Logic.{⊎_swap}
 use Prim.Native.Nat.{ℕ, ◌+◌, ◌<◌, ◌≤◌}
 use native.Mathlib.Omega.{arith}
-use borrow.Author.Tests.{eqb-true, ltb-true, ltb-false, not_true}
+use borrow.Author.Tests.{eqb-true, ltb-true, ltb-false, not-true}
 use lib.Dec.{eqb, ltb}
 use lib.IntN.{ℤ}
 use lib.ListN.{length}
@@ -33,7 +33,7 @@ module _ (start : ℕ) (p : Place) (pyramid work : List ℤ) where
     unfolding Settled.settling Standing.lying Standing.slice_of
     settling_own picture =
         let b = (and-eq-true_iff (eqb p.slot odd) (not (eqb p.home start))).0 t in
-        rw (eqb-true p.slot odd b.0, not_true (eqb p.home start) b.1) moved_own
+        rw (eqb-true p.slot odd b.0, not-true (eqb p.home start) b.1) moved_own
 
     pub moved : Moved start p pyramid work work'
     moved =

@@ -4,7 +4,7 @@ use mathlib.Core.Path.{◌≡◌}
 use mathlib.Core.Bool.{true, false}
 use Prim.Native.Nat.{◌+◌, ◌*◌}
 use borrow.Author.Rules.{rules}
-use borrow.Author.Tests.{not_true, not_false}
+use borrow.Author.Tests.{not-true, not-false}
 use lib.ListN.{length}
 use Rattle.line.specs.Uncut.{Squeeze, squeeze, Fitting}
 use Rattle.line.specs.Into.{fits}
@@ -20,7 +20,7 @@ asked c = let a = c.args in squeeze false a.w a.m a.n a.avg.now a.res.now a.next
 tested : (c : tie.Else1)
     → let a = c.before.before.before.args in
     fits a.w a.m a.n a.avg.now a.res.now a.next.now a.prev.now a.out.now ≡ true
-tested c = let f = c.before.fits2 in rw f.ensures at (not_false f.result c.if1.false)
+tested c = let f = c.before.fits2 in rw f.ensures at (not-false f.result c.if1.false)
 
 fitted : (c : tie.Else1)
     → let s = c.before.before.before in
@@ -39,7 +39,7 @@ returns : tie.Need-returns
 returns c =
     let s = c.before.before.before in
     let f = c.before.fits2 in
-    into_kept (asked s) s.args.out.now (rw f.ensures at (not_true f.result c.if1.true))
+    into_kept (asked s) s.args.out.now (rw f.ensures at (not-true f.result c.if1.true))
 
 same-length-2 : tie.Need-same-length-2
 same-length-2 c = search rules

@@ -3,7 +3,7 @@ use mathlib.Core.Path.{◌≡◌, sym, ◌∙◌}
 use mathlib.Core.Bool.{true, false}
 use Prim.Native.Nat.{◌*◌}
 use borrow.Author.Rules.{rules}
-use borrow.Author.Tests.{not_true, not_false}
+use borrow.Author.Tests.{not-true, not-false}
 use lib.ListN.{length}
 use Rattle.forward.specs.Into.{slices_fit}
 use Rattle.forward.proofs.Fitted.{fitted, squeezed_kept, squeezed_put}
@@ -11,7 +11,7 @@ use Rattle.forward.proofs.squeeze_lines.Statement.{statement}
 use Rattle.forward.proofs.squeeze_lines.Tie as tie
 
 fit-so : (c : tie.Else1) → let a = c.before.before.before.args in slices_fit a.lines a.size a.xs.now a.out.now ≡ true
-fit-so c = let fit = c.before.slices-fit in sym fit.ensures ∙ not_false fit.result c.if1.false
+fit-so c = let fit = c.before.slices-fit in sym fit.ensures ∙ not-false fit.result c.if1.false
 
 lengths : (c : tie.Else1)
     → let a = c.before.before.before.args in
@@ -30,7 +30,7 @@ returns : tie.Need-returns
 returns c =
     let fit = c.before.slices-fit in
     let a = c.before.before.before.args in
-    squeezed_kept a.horizontal a.lines a.size a.xs.now a.out.now (sym fit.ensures ∙ not_true fit.result c.if1.true)
+    squeezed_kept a.horizontal a.lines a.size a.xs.now a.out.now (sym fit.ensures ∙ not-true fit.result c.if1.true)
 
 squeeze-along-requires : tie.Need-squeeze-along-requires
 squeeze-along-requires c κs = lengths c.before.before

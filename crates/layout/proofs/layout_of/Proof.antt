@@ -7,7 +7,7 @@ use native.Mathlib.Omega.{arith}
 use lib.Dec.{leb}
 use lib.ListN.{length}
 use borrow.Author.Rules.{rules}
-use borrow.Author.Tests.{not_true, not_false}
+use borrow.Author.Tests.{not-true, not-false}
 use Rattle.list.specs.Lists.{channels, origins}
 use Rattle.plan.specs.Steps as S
 use Rattle.layout.specs.Layout.{Rows, rows, rows_of, layout_of, all_fit, all_over}
@@ -84,7 +84,7 @@ returns-3 c =
     let e = r.before in
     let f = e.before.before.read-form in
     let z = read_accepted _ f.result f.ensures e.if1.false r.rewrite.result r.rewrite.ensures k.before.before.before.if2.false in
-    short _ _ z (room-here k false (not_true _ c.if3.true))
+    short _ _ z (room-here k false (not-true _ c.if3.true))
 
 put-layout-requires : tie.Need-put-layout-requires
 put-layout-requires c κs =
@@ -97,7 +97,7 @@ put-layout-requires c κs =
       version_known _ f.result f.ensures e.if1.false r.rewrite.result r.rewrite.ensures m.before.if2.false,
       m.meant-steps.ensures.1,
       list_few _ f.result f.ensures e.if1.false r.rewrite.result r.rewrite.ensures m.before.if2.false,
-      rw (rows-here k) (room-here k true (not_false _ o.if3.false)),
+      rw (rows-here k) (room-here k true (not-false _ o.if3.false)),
     )
 
 same_length : tie.Need-same-length
@@ -125,7 +125,7 @@ returns-4 c =
     let a = r.before.before.before.before.before.before.before.before.before.args in
     let out = rows a.counts.now a.steps.now a.channels.now a.origins.now in
     let found = rows_of f.result.version (S.steps m.meant-steps.result.steps) (channels r.rewrite.result.list) (origins r.rewrite.result.list) in
-    done _ _ z (room-here k true (not_false _ o.if3.false)) _ (all_over_lem found out _ _ _ _ p.put-layout.ensures ∙ ap (λ (x : Rows). all_over x out) (rows-here k))
+    done _ _ z (room-here k true (not-false _ o.if3.false)) _ (all_over_lem found out _ _ _ _ p.put-layout.ensures ∙ ap (λ (x : Rows). all_over x out) (rows-here k))
 
 pub layout-of-spec : {M : Type 1} → statement M
 layout-of-spec =

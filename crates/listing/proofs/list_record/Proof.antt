@@ -2,7 +2,7 @@
 -- Assumes nothing.
 use native.Mathlib.Omega.{arith}
 use borrow.Author.Rules.{rules}
-use borrow.Author.Tests.{not_true, not_false}
+use borrow.Author.Tests.{not-true, not-false}
 use lib.ListN.{length}
 use Rattle.record.proofs.Readings.{read_judged}
 use Rattle.listing.proofs.Puts.{front_end, put_front, front_length}
@@ -33,7 +33,7 @@ returns-2 c =
     let e = p.before.before in
     let f = e.before.before.read-record in
     let t = listing_accepted _ f.result f.ensures e.if1.false in
-    list_short _ f.result f.ensures _ _ e.if1.false _ (front_end (rw t at p.put_record.ensures)) (not_true _ c.if2.true)
+    list_short _ f.result f.ensures _ _ e.if1.false _ (front_end (rw t at p.put_record.ensures)) (not-true _ c.if2.true)
 
 array-share-prefix-page : tie.Need-array-share-prefix-page
 array-share-prefix-page c = search rules
@@ -46,7 +46,7 @@ put-word-requires c κs =
     let e = c.before.before in
     let p = e.before.before in
     let a = p.before.before.before.before.before.before.before.before.args in
-    let r = room_left p.put_record.result (length a.text.now) (length a.size.now) (not_false _ e.if2.false) in
+    let r = room_left p.put_record.result (length a.text.now) (length a.size.now) (not-false _ e.if2.false) in
     omega (arith, front_length p.put_record.ensures, r.0)
 
 cast-size : tie.Need-overflow-cast-size
@@ -57,7 +57,7 @@ slice-write-size c =
     let e = c.before.before.before.before.before in
     let p = e.before.before in
     let a = p.before.before.before.before.before.before.before.before.args in
-    (room_left p.put_record.result (length a.text.now) (length a.size.now) (not_false _ e.if2.false)).1
+    (room_left p.put_record.result (length a.text.now) (length a.size.now) (not-false _ e.if2.false)).1
 
 same_length : tie.Need-same-length
 same_length c = search rules
@@ -74,7 +74,7 @@ returns-3 c =
     let f = e.before.before.read-record in
     let t = listing_accepted _ f.result f.ensures e.if1.false in
     let q = rw t at p.put_record.ensures in
-    list_whole _ f.result f.ensures _ _ e.if1.false _ (front_end q) (not_false _ o.if2.false) _ _ (rw (put_front q) at w.put_word.ensures)
+    list_whole _ f.result f.ensures _ _ e.if1.false _ (front_end q) (not-false _ o.if2.false) _ _ (rw (put_front q) at w.put_word.ensures)
 
 pub list-record-spec : {M : Type 1} → statement M
 list-record-spec =

@@ -2,7 +2,7 @@
 -- arrays (proofs/Judged.antt). Assumes nothing.
 use mathlib.Core.Path.{◌∙◌}
 use borrow.Author.Rules.{rules}
-use borrow.Author.Tests.{not_true, not_false}
+use borrow.Author.Tests.{not-true, not-false}
 use Rattle.list.specs.Questions as Q
 use Rattle.plan.proofs.Judged.{plan_answer}
 use Rattle.numbered.proofs.Judged.{numbers_refused₃, numbers_misfit, numbers_fit, numbers_held}
@@ -11,7 +11,7 @@ use Rattle.numbered.proofs.judge_numbers.Tie as tie
 
 returns : tie.Need-returns
 unfolding Q.count_allowed
-returns c = numbers_refused₃ _ _ _ (not_true _ c.if1.true)
+returns c = numbers_refused₃ _ _ _ (not-true _ c.if1.true)
 
 channels-fit-requires : tie.Need-channels-fit-requires
 channels-fit-requires c κs = search rules
@@ -23,20 +23,20 @@ returns-2 : tie.Need-returns-2
 unfolding Q.count_allowed
 returns-2 c =
     let f = c.before.before in
-    numbers_misfit f.before.before.before.before.args.version _ _ (not_false _ f.before.if1.false) _ _ f.channels-fit.ensures c.before.flags_allowed_lem.ensures c.if2.true
+    numbers_misfit f.before.before.before.before.args.version _ _ (not-false _ f.before.if1.false) _ _ f.channels-fit.ensures c.before.flags_allowed_lem.ensures c.if2.true
 
 list-of-requires : tie.Need-list-of-requires
 unfolding Q.count_allowed
 list-of-requires c κs =
     let f = c.before.before in
-    (numbers_fit f.before.before.before.before.args.version _ _ (not_false _ f.before.if1.false) _ _ f.channels-fit.ensures c.before.flags_allowed_lem.ensures c.if2.false).0
+    (numbers_fit f.before.before.before.before.args.version _ _ (not-false _ f.before.if1.false) _ _ f.channels-fit.ensures c.before.flags_allowed_lem.ensures c.if2.false).0
 
 steps-of-requires : tie.Need-steps-of-requires
 unfolding Q.count_allowed
 steps-of-requires c κs =
     let t = c.before in
     let f = t.before.before in
-    (numbers_fit f.before.before.before.before.args.version _ _ (not_false _ f.before.if1.false) _ _ f.channels-fit.ensures t.before.flags_allowed_lem.ensures t.if2.false).1
+    (numbers_fit f.before.before.before.before.args.version _ _ (not-false _ f.before.if1.false) _ _ f.channels-fit.ensures t.before.flags_allowed_lem.ensures t.if2.false).1
 
 rewrite-requires : tie.Need-rewrite-requires
 rewrite-requires c κs = search rules
@@ -49,7 +49,7 @@ returns-3 c =
     let t = l.before in
     let f = t.before.before in
     let a = f.before.before.before.before.args in
-    let e = not_false _ f.before.if1.false in
+    let e = not-false _ f.before.if1.false in
     plan_answer _ _ _ _ c.rewrite.ensures
     ∙ rw (l.list_of.ensures, s.steps_of.ensures)
     (numbers_held a.version a.channels.now a.steps.now e (numbers_fit f.before.before.before.before.args.version _ _ e _ _ f.channels-fit.ensures t.before.flags_allowed_lem.ensures t.if2.false).0)

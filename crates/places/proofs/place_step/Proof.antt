@@ -2,7 +2,7 @@
 use mathlib.Core.Path.{◌≡◌, refl, sym, ◌∙◌}
 use mathlib.Core.Bool.{true}
 use native.Mathlib.Omega.{arith}
-use borrow.Author.Tests.{not_true, not_false}
+use borrow.Author.Tests.{not-true, not-false}
 use borrow.Author.Rules.{rules}
 use Rattle.places.specs.Places as Places
 use Rattle.places.proofs.Steps.{residuals_inside}
@@ -12,7 +12,7 @@ use Rattle.places.proofs.place_step.Tie as tie
 
 -- where the step fits
 fitting : (c : tie.Else1) → Places.step_fits c.before.before.args.count c.before.before.args.step ≡ true
-fitting c = sym c.before.step-fits.ensures ∙ not_false _ c.if1.false
+fitting c = sym c.before.step-fits.ensures ∙ not-false _ c.if1.false
 
 step-fits-requires : tie.Need-step-fits-requires
 step-fits-requires c κs = search rules
@@ -20,7 +20,7 @@ step-fits-requires c κs = search rules
 returns : tie.Need-returns
 returns c =
     let a = c.before.before.args in
-    let r = refused a.count a.step a.widths.now a.heights.now a.homes.now a.slots.now (sym c.before.step-fits.ensures ∙ not_true _ c.if1.true) in
+    let r = refused a.count a.step a.widths.now a.heights.now a.homes.now a.slots.now (sym c.before.step-fits.ensures ∙ not-true _ c.if1.true) in
     (r.0, r.1, refl, refl, refl, refl)
 
 cast-number : tie.Need-overflow-cast-number

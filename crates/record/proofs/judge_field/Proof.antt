@@ -1,5 +1,5 @@
 -- `judge_field` meets its contract: each return has the answers to the questions before it. Assumes nothing.
-use mathlib.Core.Bool.{or_true}
+use mathlib.Core.Bool.{or-true}
 use mathlib.Core.Path.{sym, ◌∙◌}
 use borrow.Author.Rules.{rules}
 use Rattle.list.proofs.Asking.{no, yes}
@@ -25,7 +25,7 @@ returns-2 : tie.Need-returns-2
 unfolding judge_field
 returns-2 c =
     let q = c.before.before.before in
-    rw (yes q.before.field-inside.ensures q.if1.false, sym c.before.before.is_step_lem.ensures ∙ c.before.if2.true, or_true) c.judge-step.ensures
+    rw (yes q.before.field-inside.ensures q.if1.false, sym c.before.before.is_step_lem.ensures ∙ c.before.if2.true, or-true) c.judge-step.ensures
 
 is-channel-requires : tie.Need-is-channel-requires
 is-channel-requires c κs = let q = c.before.before in (inside _ (yes q.before.field-inside.ensures q.if1.false)).0

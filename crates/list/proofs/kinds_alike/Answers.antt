@@ -1,0 +1,19 @@
+-- `kinds_alike` meets its contract. Assumes nothing.
+use mathlib.Core.Path.{◌≡◌, refl}
+use mathlib.Core.Bool.{Bool, true, false, beq}
+use borrow.Author.Rules.{rules}
+use Rattle.list.specs.Questions.{alike}
+use Rattle.list.proofs.kinds_alike.Goals as goal
+
+same : (f g : Bool) → beq f g ≡ alike f g
+same true true = refl
+same true false = refl
+same false true = refl
+same false false = refl
+
+pub returns : goal.returns
+returns c =
+    let m = c in
+    let e = m in
+    let f = e in
+    rw (← f.entry_of-first.ensures, ← e.entry_of-last.ensures, ← m.is_meta.ensures, ← c.is_meta-2.ensures) (same m.is_meta.result c.is_meta-2.result)

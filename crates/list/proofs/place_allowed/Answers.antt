@@ -1,0 +1,6 @@
+-- `place_allowed` meets its contract. Assumes nothing.
+use borrow.Author.Rules.{rules}
+use Rattle.list.proofs.place_allowed.Goals as goal
+
+pub returns : goal.returns
+returns c = rw (← c.entry_of-first.ensures, ← c.is_meta.ensures)

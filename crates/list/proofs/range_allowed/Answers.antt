@@ -1,0 +1,6 @@
+-- `range_allowed` meets its contract. Assumes nothing.
+use borrow.Author.Rules.{rules}
+use Rattle.list.proofs.range_allowed.Goals as goal
+
+pub returns : goal.returns
+returns c = rw c.meant.ensures

@@ -1,0 +1,18 @@
+-- `range_keeps_shifts` meets its contract: what is left of the range answers for the whole. Assumes nothing.
+use mathlib.Core.Path.{◌≡◌, refl, ap, ◌∙◌}
+use Prim.Native.Nat.{ℕ, ◌+◌, ◌-◌}
+use native.Mathlib.Omega.{arith}
+use borrow.Author.Rules.{rules}
+use borrow.Author.Tests.{not-true, not-false}
+use Rattle.list.specs.Tables.{table, all}
+use Rattle.list.specs.Lists.{entry_of}
+use Rattle.list.specs.Questions.{shifts_kept}
+use Rattle.list.proofs.Tables.{table_none, all_stop, all_next}
+use Rattle.list.proofs.range_keeps_shifts.Given as goal
+
+abbrev pub invariant-loop-k : goal.invariant-loop-k
+invariant-loop-k l =
+    all (shifts_kept l.step.horizontal) (table (entry_of l.widths l.heights l.hshifts l.vshifts) l.k (l.end - l.k)) ≡ all (shifts_kept l.step.horizontal) (table (entry_of l.widths l.heights l.hshifts l.vshifts) l.begin (l.end - l.begin))
+
+abbrev pub decreases-loop-k : goal.decreases-loop-k
+decreases-loop-k l = l.end - l.k

@@ -1,0 +1,36 @@
+-- `span_of` meets its contract. A tile side is at most its dimension, so a start is at most 65,535 * 8,192 and fits. A tile side is at most the LF tile side,
+-- which is therefore above 0 where the tile is not empty. Assumes nothing.
+use Prim.Native.Nat.{◌≤◌}
+use native.Mathlib.Nat.{mul-le-mul_left}
+use native.Mathlib.Omega.{arith}
+use lib.Pow.{shr_le, shr_mono}
+use borrow.Author.Rules.{rules}
+use Rattle.rect.specs.Rect.{lf_dimension}
+use Rattle.rect.specs.Parts.{max_group}
+use Rattle.rect.proofs.span_of.Goals as goal
+
+pub overflow_mul-start : goal.overflow_mul-start
+overflow_mul-start c =
+    let a = c.args in
+    let t : c.tile_side-tile.result ≤ lf_dimension max_group = omega (arith, shr_le a.dimension a.shift) in
+    omega (arith, mul-le-mul_left a.position t)
+
+pub returns-then-size-eq0 : goal.returns-then-size-eq0
+returns-then-size-eq0 c =
+    record {
+      sized = rw (c.tile_side-tile.ensures, c.if-size-eq0.true) at c.size_from-size.ensures;
+      starts = λ h. absurd (omega arith);
+    }
+
+pub start_in-requires : goal.start_in-requires
+start_in-requires c =
+    let entry = c in omega (arith, shr_mono entry.args.shift entry.requires.0.within)
+
+pub returns : goal.returns
+returns c =
+    let sized = c in
+    let side = sized.tile_side-tile.ensures in
+    record {
+      sized = rw side at sized.size_from-size.ensures;
+      starts = λ h. rw (side, c.tile_side-lf.ensures) at c.start_in.ensures;
+    }
