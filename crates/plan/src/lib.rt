@@ -2,6 +2,8 @@
 // `meta_apply_transforms`): the steps in flat arrays, the default plan of either
 // version (document 02, A.11), the run of a plan over a list, and the coarse
 // count. Total.
+#![tactic(auto)]
+
 ghost use Rattle.std.specs.Prelude.{◌≡◌, true, [], ◌+◌, ◌<◌, ◌≤◌, length};
 ghost use Rattle.channel.specs.Channel.{sides_fit};
 ghost use Rattle.list.specs.Tables.{all};

@@ -82,33 +82,33 @@ tile-requires-in-514 c = passed c.before _ (omega arith)
 
 pub returns-in-0 : goal.returns-in-0
 unfolding by_kinds
-returns-in-0 c = arm c.before.before 0 0 c.whole.result (omega arith) c.in_default.keys1 c.whole.ensures
+returns-in-0 c = arm c.before.before 0 0 c.whole.result (omega arith) c.in-0.is c.whole.ensures
 
 pub returns-in-256 : goal.returns-in-256
 unfolding by_kinds
-returns-in-256 c = arm c.before.before 1 0 c.tile.result (omega arith) c.in_default.keys2 c.tile.ensures
+returns-in-256 c = arm c.before.before 1 0 c.tile.result (omega arith) c.in-256.is c.tile.ensures
 
 pub returns-in-257 : goal.returns-in-257
 unfolding by_kinds
-returns-in-257 c = arm c.before.before 1 1 c.tile-in-257.result (omega arith) c.in_default.keys3 c.tile-in-257.ensures
+returns-in-257 c = arm c.before.before 1 1 c.tile-in-257.result (omega arith) c.in-257.is c.tile-in-257.ensures
 
 pub returns-in-512 : goal.returns-in-512
 unfolding by_kinds
-returns-in-512 c = arm c.before.before 2 0 c.tile-in-512.result (omega arith) c.in_default.keys4 c.tile-in-512.ensures
+returns-in-512 c = arm c.before.before 2 0 c.tile-in-512.result (omega arith) c.in-512.is c.tile-in-512.ensures
 
 pub returns-in-513 : goal.returns-in-513
 unfolding by_kinds
-returns-in-513 c = arm c.before.before 2 1 c.tile-in-513.result (omega arith) c.in_default.keys5 c.tile-in-513.ensures
+returns-in-513 c = arm c.before.before 2 1 c.tile-in-513.result (omega arith) c.in-513.is c.tile-in-513.ensures
 
 pub returns-in-514 : goal.returns-in-514
 unfolding by_kinds
-returns-in-514 c = arm c.before.before 2 2 c.tile-in-514.result (omega arith) c.in_default.keys6 c.tile-in-514.ensures
+returns-in-514 c = arm c.before.before 2 2 c.tile-in-514.result (omega arith) c.in-514.is c.tile-in-514.ensures
 
 pub returns-in_default : goal.returns-in_default
 returns-in_default c =
     let asked = c in
     let a = (entry asked.before.before).args in
-    let rest = c.in_default.rest in
+    let rest = c.in_default.in_default-own.rest in
     let unnamed : Chosen.Unnamed (Chosen.number a.output a.stored) = record {
       none = rest.0.0.0.0.0.1;
       lf_on_none = rest.0.0.0.0.1;

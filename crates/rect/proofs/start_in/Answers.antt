@@ -3,4 +3,4 @@ use borrow.Author.Rules.{rules}
 use Rattle.rect.proofs.start_in.Goals as goal
 
 pub returns-in-WithinLf : goal.returns-in-WithinLf
-returns-in-WithinLf c = rw c.enum_told-in-WithinLf-1.given.1
+returns-in-WithinLf c = rw c.in-WithinLf.is

@@ -1,0 +1,22 @@
+-- `step` meets its contract: inside the arrays by computation; past them, where their length is 64, an entry is 0. Assumes nothing.
+use mathlib.Core.Path.{◌≡◌}
+use mathlib.Core.List.{List}
+use Prim.Native.Nat.{ℕ, ◌≤◌}
+use native.Mathlib.Omega.{arith}
+use lib.ListN.{length, get_or, get_or-eq_default}
+use borrow.Author.Rules.{rules}
+use Rattle.list.specs.Lists.{max_steps}
+use Rattle.plan.proofs.Steps.step.Goals as goal
+
+past : (xs : List ℕ) (k : ℕ) → max_steps ≤ k → length xs ≡ max_steps → get_or xs k 0 ≡ 0
+past xs k h e = get_or-eq_default xs 0 (omega arith)
+
+pub returns-then-k-ge-MAX_STEPS : goal.returns-then-k-ge-MAX_STEPS
+returns-then-k-ge-MAX_STEPS c =
+    let arrays = c.well_formed.0.1.1.1 in
+    let k = c.args.k in
+    rw (
+      past _ k c.if-k-ge-MAX_STEPS.true arrays.0.1.0.1,
+      past _ k c.if-k-ge-MAX_STEPS.true arrays.1.0.1.0.1,
+      past _ k c.if-k-ge-MAX_STEPS.true arrays.1.1.0.1.0.1,
+    )

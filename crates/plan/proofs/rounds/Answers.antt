@@ -1,0 +1,34 @@
+-- `rounds` meets its contract: the turns that are left fit and give the whole plan (`Left` of proofs/Appended.antt). A turn lowers the sum of the
+-- sides. Assumes nothing.
+use mathlib.Core.Path.{refl}
+use Prim.Native.Nat.{◌+◌, ◌≤◌}
+use borrow.Author.Rules.{rules}
+use Rattle.plan.specs.Adding.{appended}
+use Rattle.plan.specs.Default as Default
+use Rattle.plan.proofs.Turns.{turn_lowers}
+use Rattle.plan.proofs.Appended.{Left, left_across, left_down, left_more, left_none}
+use Rattle.plan.proofs.rounds.Goals as goal
+
+pub loop-width-init : goal.loop-width-init
+loop-width-init c = (c.requires.0, record { room = c.requires.1; so = refl })
+
+pub push_if-requires : goal.push_if-requires
+push_if-requires c = let i = c.loop-width.invariant in left_across _ _ _ i.0 _ _ _ _ i.1
+
+pub push_if-steps-requires : goal.push_if-steps-requires
+push_if-steps-requires c = let i = c.loop-width.invariant in left_down _ _ _ i.0 _ _ _ _ i.1 _ c.push_if.ensures
+
+pub loop-width-smaller : goal.loop-width-smaller
+loop-width-smaller c =
+    let at = c in
+    let w = c.lowered-width.ensures in
+    let h = c.lowered-height.ensures in
+    rw (w, h) (turn_lowers _ at.loop-width.width at.loop-width.height at.loop-width.invariant.0 c.loop-width-test.true)
+
+pub loop-width-preserved : goal.loop-width-preserved
+loop-width-preserved c =
+    let i = c.loop-width.invariant in
+    (i.0, left_more _ _ _ i.0 _ _ _ _ i.1 _ c.push_if.ensures _ _ _ c.push_if-steps.ensures c.lowered-width.ensures c.lowered-height.ensures)
+
+pub returns : goal.returns
+returns c = let i = c.loop-width.invariant in left_none _ _ _ i.0 _ _ _ _ i.1 c.loop-width-test.false

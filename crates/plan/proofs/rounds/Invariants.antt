@@ -1,0 +1,17 @@
+-- `rounds` meets its contract: the turns that are left fit and give the whole plan (`Left` of proofs/Appended.antt). A turn lowers the sum of the
+-- sides. Assumes nothing.
+use mathlib.Core.Path.{refl}
+use Prim.Native.Nat.{◌+◌, ◌≤◌}
+use borrow.Author.Rules.{rules}
+use Rattle.plan.specs.Adding.{appended}
+use Rattle.plan.specs.Default as Default
+use Rattle.plan.proofs.Turns.{turn_lowers}
+use Rattle.plan.proofs.Appended.{Left, left_across, left_down, left_more, left_none}
+use Rattle.plan.proofs.rounds.Given as goal
+
+abbrev pub invariant-loop-width : goal.invariant-loop-width
+invariant-loop-width l =
+    (1 ≤ l.stop) × Left l.stop l.m l.n (appended l.initial.steps (Default.rounds (l.initial.width + l.initial.height) l.stop l.m l.n l.initial.width l.initial.height)) l.steps l.width l.height
+
+abbrev pub decreases-loop-width : goal.decreases-loop-width
+decreases-loop-width l = l.width + l.height

@@ -1,0 +1,18 @@
+-- `tidied` meets its contract: up to k the arrays hold the channels of the list and their own positions, and zeros after them. Assumes nothing.
+use mathlib.Core.Path.{sym, ◌∙◌}
+use Prim.Native.Nat.{◌-◌, ◌≤◌}
+use native.Mathlib.Omega.{arith}
+use borrow.Author.Rules.{rules}
+use lib.ListN.{length}
+use Rattle.list.specs.Lists.{max_channels, channels, own_positions}
+use Rattle.list.proofs.Channels.{found_at, own_length, own_at}
+use Rattle.list.proofs.Filled.{Filling, filling_none, filling_stored, filling_all}
+use Rattle.plan.proofs.Counts.{counted_all}
+use Rattle.plan.proofs.tidied.Given as goal
+
+abbrev pub invariant-loop-k : goal.invariant-loop-k
+invariant-loop-k l =
+    (l.count ≤ max_channels) × (l.k ≤ l.count) × Filling (channels l.list) (own_positions (length (channels l.list))) l.widths l.heights l.hshifts l.vshifts l.origins l.k
+
+abbrev pub decreases-loop-k : goal.decreases-loop-k
+decreases-loop-k l = l.count - l.k
