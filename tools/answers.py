@@ -63,6 +63,18 @@ def parameters(crate, folder):
     return []
 
 
+def several_clauses(crate, folder):
+    """Whether the function has more than one `ensures`."""
+    name = os.path.basename(folder)
+    src = os.path.join(crate, "src")
+    for file in sorted(os.listdir(src)):
+        text = open(os.path.join(src, file), encoding="utf-8").read()
+        m = re.search(rf"\bfn {name}(?:<[^>]*>)?\(.*?^\s*\{{$", text, re.S | re.M)
+        if m:
+            return len(re.findall(r"^\s+ensures ", m.group(0), re.M)) > 1
+    return False
+
+
 def data_parent(data, name):
     return next((p for n, p, *_ in data["places"] if n == name), None)
 
@@ -95,6 +107,7 @@ class Function:
         self.loops = {alike(l[0][0]): (l[0][1], l[1], ch) for l, ch in zip(data["loops"], data["changed"])}
         self.new_fields = set(self.fields.values())
         self.params = parameters(crate, folder)
+        self.several = several_clauses(crate, folder)
 
     def up(self, a, b):
         """How many places lie between place a and place b above it."""
@@ -254,7 +267,7 @@ def convert(name, data, crate, said):
             takes[h.group(1)] = f.at.get(rename[h.group(1)])
 
     def field(q):
-        q = {"inv": "invariant", "taken": "true"}.get(q, q)
+        q = {"inv": "invariant", "taken": "true", "left": "false"}.get(q, q)
         return q.replace("-", "_") if re.search("[a-z0-9]-[a-z0-9]", q) and q not in f.new_fields else q
 
     def argument(q):
@@ -305,7 +318,7 @@ def convert(name, data, crate, said):
                 raw = f.raw[key]
                 claims = ["tie.the-claims"] if data["params"] else []
                 loops = [f"goal.the-{loop_name(n, f)}" for n in invnames]
-                unexported[new] = f"abbrev {new} : Type 0\n{new} = Lts.{raw} " + " ".join(claims + ["reads.Pre", "reads.Post"] + loops)
+                unexported[new] = f"abbrev {new} : Type 0\n{new} = Lts.{raw} " + " ".join(claims + ["reads.Pre", "reads.Post"] + (["tie.handed_clauses"] if f.several else []) + loops)
                 return new
             return f"goal.{new}"
 
@@ -366,7 +379,8 @@ def convert(name, data, crate, said):
             if n is None:
                 said.append(f"{path}: {takes[h]} is not above {where[root]} at {h}")
                 return mm.group(0)
-            return f"{h} {root}" + ".before" * (n + (m is not None and where[root] in f.typed))
+            same = h in rename and n == 0
+            return f"{h} {root}" + ".before" * (n + (m is not None and where[root] in f.typed and not same))
 
         if takes:
             b2 = re.sub(rf"(?<![^\s(){{}};,@\"«»\[\]\\])({'|'.join(re.escape(h) for h in sorted(takes, key=len, reverse=True))}) ([^\s(){{}}.;,@\"«»\[\]\\=]+(?:\.before)*)(?![^\s(){{}};,@\"«»\[\]\\])", passing, b2)

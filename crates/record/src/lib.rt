@@ -2,6 +2,8 @@
 // channel list and its steps as bytes, read field by field and written. Total:
 // every byte string is judged, by questions 1 to 11 in their order; the writer
 // puts 3 to 11 and 14.
+#![tactic(auto)]
+
 ghost use Rattle.std.specs.Prelude.{◌≡◌, ◌+◌, ◌≤◌, ◌<◌, length};
 ghost use Rattle.list.specs.Lists.{max_channels, max_steps, channels};
 ghost use Rattle.plan.specs.Steps as StepsSpec;

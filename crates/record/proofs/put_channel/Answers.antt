@@ -1,0 +1,24 @@
+-- `put_channel` meets its contract: the field of the channel's kind is put. Assumes nothing.
+use mathlib.Core.Path.{sym, ◌∙◌}
+use mathlib.Core.Bool.{true, false}
+use borrow.Author.Rules.{rules}
+use Rattle.record.specs.Bytes.{channel_size, strip_size}
+use Rattle.record.proofs.Joined.{channel_field_lem}
+use Rattle.record.proofs.Placed.{put_field}
+use Rattle.record.proofs.put_channel.Goals as goal
+
+pub returns-then-is_strip : goal.returns-then-is_strip
+returns-then-is_strip c =
+    let f = c in
+    let i = f in
+    let s = i in
+    let e = channel_field_lem s.args.c true (sym i.is_strip.ensures ∙ f.if-is_strip.true) in
+    put_field _ _ _ s.requires _ _ strip_size (f.strip_field-field.ensures ∙ sym e) (search rules) c.put_bytes.ensures
+
+pub returns-else-is_strip : goal.returns-else-is_strip
+returns-else-is_strip c =
+    let f = c in
+    let i = f in
+    let s = i in
+    let e = channel_field_lem s.args.c false (sym i.is_strip.ensures ∙ f.if-is_strip.false) in
+    put_field _ _ _ s.requires _ _ channel_size (f.short_field-field.ensures ∙ sym e) (search rules) c.put_bytes-else-is_strip.ensures

@@ -1,0 +1,17 @@
+-- `write_channels` meets its contract. The loop's invariant: the fields so far are in the slice, and those that are left complete them
+-- (proofs/Placed.antt). Assumes nothing.
+use mathlib.Core.Path.{◌≡◌, ap}
+use Prim.Native.Nat.{◌-◌, min}
+use native.Mathlib.Omega.{arith}
+use borrow.Author.Rules.{rules}
+use Rattle.list.specs.Lists.{max_channels, channel_at, channels}
+use Rattle.list.proofs.Channels.{channels_all}
+use Rattle.record.specs.Bytes.{joined, channel_field, channel_fields}
+use Rattle.record.proofs.Placed.{Putting, putting_none, putting_length, putting_all, putting_room, putting_more}
+use Rattle.record.proofs.write_channels.Given as goal
+
+abbrev pub invariant-loop-k : goal.invariant-loop-k
+invariant-loop-k l = Putting channel_field (channel_at l.list) l.count (channel_fields (channels l.list)) l.start l.initial.out l.out l.at l.k
+
+abbrev pub decreases-loop-k : goal.decreases-loop-k
+decreases-loop-k l = l.count - l.k

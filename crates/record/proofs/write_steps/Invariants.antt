@@ -1,0 +1,19 @@
+-- `write_steps` meets its contract. The loop's invariant: the fields so far are in the slice, and those that are left complete them
+-- (proofs/Placed.antt). Assumes nothing.
+use mathlib.Core.Path.{◌≡◌, ap, ◌∙◌}
+use Prim.Native.Nat.{◌+◌, ◌-◌, ◌≤◌, min}
+use native.Mathlib.Omega.{arith}
+use borrow.Author.Rules.{rules}
+use lib.ListN.{length}
+use Rattle.list.specs.Lists.{max_steps}
+use Rattle.plan.specs.Steps as S
+use Rattle.plan.specs.Steps.{step_at}
+use Rattle.record.specs.Bytes.{step_size, joined, step_field, step_fields}
+use Rattle.record.proofs.Placed.{Putting, putting_none, putting_length, putting_all, putting_room, putting_more, steps_all, put_placed}
+use Rattle.record.proofs.write_steps.Given as goal
+
+abbrev pub invariant-loop-k : goal.invariant-loop-k
+invariant-loop-k l = Putting step_field (step_at l.steps) l.count (step_fields (S.steps l.steps)) l.start l.initial.out l.out l.at l.k
+
+abbrev pub decreases-loop-k : goal.decreases-loop-k
+decreases-loop-k l = l.count - l.k
