@@ -318,7 +318,7 @@ def convert(name, data, crate, said):
                 raw = f.raw[key]
                 claims = ["tie.the-claims"] if data["params"] else []
                 loops = [f"goal.the-{loop_name(n, f)}" for n in invnames]
-                unexported[new] = f"abbrev {new} : Type 0\n{new} = Lts.{raw} " + " ".join(claims + ["reads.Pre", "reads.Post"] + (["tie.handed_clauses"] if f.several else []) + loops)
+                unexported[new] = f"abbrev {new} : Type 0\n{new} = Lts.{raw} " + " ".join(claims + ["reads.Pre", "reads.Post"] + loops + (["tie.handed_clauses"] if f.several else []))
                 return new
             return f"goal.{new}"
 

@@ -1,5 +1,7 @@
 // The listing of a record (document 01, the program squeeze-list): record bytes
 // in, text bytes out. Total.
+#![tactic(auto)]
+
 ghost use Rattle.std.specs.Prelude.{◌≡◌, true, ◌+◌, ◌*◌, ◌%◌, ◌≤◌, length};
 ghost use Rattle.list.specs.Lists.{max_channels, max_steps, channels};
 ghost use Rattle.plan.specs.Version.{is_version};

@@ -5,7 +5,7 @@ use mathlib.Core.List.{List, [], ◌∷◌}
 use Prim.Native.Nat.{ℕ, ◌≤◌}
 use native.Mathlib.Omega.{arith}
 use lib.Dec.{eqb, leb}
-use borrow.Author.Tests.{not-true, not-false, leb-true, le-leb}
+use borrow.Author.Tests.{leb-true, le-leb}
 use Rattle.channel.specs.declared.Channel.{Channel}
 use Rattle.channel.specs.Channel.{meta_shift, shifts_allowed}
 use Rattle.channel.proofs.Shifts.{shifts_small}
@@ -109,12 +109,12 @@ module _ (version : ℕ) (ns ms : List ℕ) where
 
     -- x and y are what the code found of the two
     module _ (x y : Bool) (ex : x ≡ all shifts_fit (channels_of ns)) (ey : y ≡ all flags_allowed (flags_of ms)) where
-      pub numbers_misfit : not (x && y) ≡ true → 4 ≡ judge_numbers version ns ms
-      numbers_misfit h = numbers_refused₄ (sym (λ i. ex i && ey i) ∙ not-true (x && y) h)
+      pub numbers_misfit : x && y ≡ false → 4 ≡ judge_numbers version ns ms
+      numbers_misfit h = numbers_refused₄ (sym (λ i. ex i && ey i) ∙ h)
 
-      pub numbers_fit : not (x && y) ≡ false → ListFits ns × StepsFit ms
+      pub numbers_fit : x && y ≡ true → ListFits ns × StepsFit ms
       numbers_fit h =
-          let b = (and-eq-true_iff (all shifts_fit (channels_of ns)) (all flags_allowed (flags_of ms))).0 (sym (λ i. ex i && ey i) ∙ not-false (x && y) h) in
+          let b = (and-eq-true_iff (all shifts_fit (channels_of ns)) (all flags_allowed (flags_of ms))).0 (sym (λ i. ex i && ey i) ∙ h) in
           ((few.0, b.0), (few.1, b.1))
 
     -- the steps held

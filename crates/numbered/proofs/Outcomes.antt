@@ -7,7 +7,7 @@ use Prim.Native.Nat.{ℕ, ◌≤◌}
 use native.Mathlib.Omega.{arith}
 use lib.Dec.{eqb, leb}
 use lib.ListN.{length, drop, set}
-use borrow.Author.Tests.{not-true, not-false, eqb-true, ne_eqb, leb-true}
+use borrow.Author.Tests.{eqb-true, ne_eqb, leb-true}
 use Rattle.numbers.specs.Numbers.{refused_length}
 use Rattle.list.specs.declared.ChannelList.{ChannelList}
 use Rattle.list.specs.Tables.{map}
@@ -58,9 +58,9 @@ bytes_kept version l s out z = rw (ne_eqb (write_answer version l s out) 0 z)
 abbrev slices : List ℕ → List ℕ → List ℕ → Bool
 slices ns ms len = (whole channel_numbers ns && whole step_numbers ms) && leb 1 (length len)
 
-module _ (ns ms len : List ℕ) (h : not (slices ns ms len) ≡ false) where
+module _ (ns ms len : List ℕ) (h : slices ns ms len ≡ true) where
   parts : ((whole channel_numbers ns && whole step_numbers ms) ≡ true) × (leb 1 (length len) ≡ true)
-  parts = (and-eq-true_iff (whole channel_numbers ns && whole step_numbers ms) (leb 1 (length len))).0 (not-false (slices ns ms len) h)
+  parts = (and-eq-true_iff (whole channel_numbers ns && whole step_numbers ms) (leb 1 (length len))).0 h
 
   pub length_room : 1 ≤ length len
   length_room = leb-true 1 (length len) parts.1
@@ -102,11 +102,11 @@ module _ (version : ℕ) (ns ms bytes len : List ℕ) (a : ℕ) (ea : a ≡ judg
     unfolding answer
     asked = rw (← ea, z)
 
-    pub slices_refused : not (slices ns ms len) ≡ true → Results version ns ms bytes len refused_length bytes len
+    pub slices_refused : slices ns ms len ≡ false → Results version ns ms bytes len refused_length bytes len
     unfolding slices_allowed
     slices_refused h =
         kept version ns ms bytes len refused_length
-        (asked ∙ go (whole channel_numbers ns && whole step_numbers ms) (leb 1 (length len)) (leb (length (bytes_of version ns ms)) (length bytes)) (not-true (slices ns ms len) h))
+        (asked ∙ go (whole channel_numbers ns && whole step_numbers ms) (leb 1 (length len)) (leb (length (bytes_of version ns ms)) (length bytes)) h)
         (λ e. omega arith)
       where
         go : (x y b : Bool) → (x && y) ≡ false → ask (x && (b && y)) refused_length 0 ≡ refused_length
@@ -115,7 +115,7 @@ module _ (version : ℕ) (ns ms bytes len : List ℕ) (a : ℕ) (ea : a ≡ judg
         go true y true e = rw e
 
     -- w and out are what the record's writer gave
-    module _ (h : not (slices ns ms len) ≡ false) (l : ChannelList) (s : Steps) (el : l ≡ list_of ns) (es : s ≡ plan_by held ms) (w : Written) (out : List ℕ)
+    module _ (h : slices ns ms len ≡ true) (l : ChannelList) (s : Steps) (el : l ≡ list_of ns) (es : s ≡ plan_by held ms) (w : Written) (out : List ℕ)
         (ew : w ≡ written_of version l s bytes) (eo : out ≡ written_bytes version l s bytes) where
       gave : w ≡ written_of version (list_of ns) (plan_by held ms) bytes
       gave = ew ∙ rw (el, es)

@@ -2,6 +2,8 @@
 // the questions of the record's writer put to numbers of any size, then its
 // bytes. Total: a number that no field could hold is judged by its question,
 // never cut.
+#![tactic(auto)]
+
 ghost use Rattle.std.specs.Prelude.{◌≡◌, true, ◌<◌, ◌≤◌};
 ghost use Rattle.list.specs.Tables.{all};
 ghost use Rattle.list.specs.Lists.{max_channels, max_steps};

@@ -1,0 +1,18 @@
+-- `put_channel` meets its contract: four parts, one after the other. Assumes nothing.
+use borrow.Author.Rules.{rules}
+use Rattle.listing.proofs.Digits.{fits_two}
+use Rattle.listing.proofs.Puts.{then}
+use Rattle.listing.specs.Text.{channel_line}
+use Rattle.listing.proofs.put_channel.Goals as goal
+
+pub put_two-end-requires : goal.put_two-end-requires
+put_two-end-requires c = fits_two _ _ _ _ (search rules)
+
+pub returns : goal.returns
+unfolding channel_line
+returns c =
+    let e = c in
+    let s = e in
+    let w = s in
+    let t = w in
+    record { put = then t.put_two-end.ensures.put (then w.put_word-end.ensures (then s.put_shifts-end.ensures.put e.put_word.ensures)); room = search rules }

@@ -1,0 +1,18 @@
+-- `put_steps` meets its contract. The loop's invariant: the lines so far are in the text (proofs/Puts.antt), with room for each. Assumes nothing.
+use mathlib.Core.Path.{ap}
+use Prim.Native.Nat.{◌+◌, ◌-◌, ◌*◌, ◌≤◌}
+use native.Mathlib.Omega.{arith}
+use borrow.Author.Rules.{rules}
+use Rattle.plan.specs.Steps.{step_at}
+use Rattle.record.specs.Bytes.{joined}
+use Rattle.listing.specs.Text.{step_line}
+use Rattle.listing.specs.Putting.{step_room}
+use Rattle.listing.proofs.Puts.{put_length, Lines, lines_none, lines_more, lines_all}
+use Rattle.listing.proofs.Held.{steps_are}
+use Rattle.listing.proofs.put_steps.Given as goal
+
+abbrev pub invariant-loop-k : goal.invariant-loop-k
+invariant-loop-k l = Lines step_line (step_at l.steps) l.count l.at l.initial.text l.text l.end l.k × (l.end ≤ l.at + step_room * l.k)
+
+abbrev pub decreases-loop-k : goal.decreases-loop-k
+decreases-loop-k l = l.count - l.k

@@ -1,0 +1,15 @@
+-- `channels_fit` meets its contract: the channels passed fit (proofs/Tested.antt). Assumes nothing.
+use Prim.Native.Nat.{◌-◌}
+use borrow.Author.Rules.{rules}
+use Rattle.list.proofs.Asking.{no, yes}
+use Rattle.numbered.specs.Numbered as N
+use Rattle.numbered.specs.Numbered.{channel_numbers, groups, channel_at}
+use Rattle.numbered.specs.Arrays.{shifts_fit}
+use Rattle.numbered.proofs.Tested.{Tested, tested_none, tested_more, tested_stop, tested_all}
+use Rattle.numbered.proofs.channels_fit.Given as goal
+
+abbrev pub invariant-loop-k : goal.invariant-loop-k
+invariant-loop-k l = Tested (channel_at l.channels) shifts_fit (groups channel_numbers l.channels) l.k
+
+abbrev pub decreases-loop-k : goal.decreases-loop-k
+decreases-loop-k l = l.count - l.k
