@@ -356,7 +356,14 @@ def convert(name, data, crate, said):
             while k < len(parts) and parts[k] == "before":
                 k += 1
             parts = parts[k:]
-            if parts and alike(re.sub("_lem$", "", parts[0])) in f.fields:
+            depth, at = 0, mm.start()
+            while at >= 0:
+                depth += {")": 1, "(": -1}.get(mm.string[at], 0)
+                if not depth:
+                    break
+                at -= 1
+            head = re.match(rf"\(({W})", mm.string[at:])
+            if parts and (k or head and head.group(1) in gives) and alike(re.sub("_lem$", "", parts[0])) in f.fields:
                 parts[0] = f.fields[alike(re.sub("_lem$", "", parts[0]))]
                 parts[1:] = [field(q) for q in parts[1:]]
             else:

@@ -2,3 +2,4 @@
 // specs/, and in proofs/ that bytes without a field of tag 3 are read, judged and
 // listed as before and that a list without a strip is written in the bytes of
 // before. There is no code here.
+#![tactic(auto)]

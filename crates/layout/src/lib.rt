@@ -2,6 +2,8 @@
 // the rewritten list, each channel's origin, and how many there are. Total:
 // questions 1 to 11 of the record, then 14 of the slices; after a refusal every
 // slice is as it was.
+#![tactic(auto)]
+
 ghost use Rattle.std.specs.Prelude.{◌≡◌, true, ◌+◌, ◌≤◌, length};
 ghost use Rattle.list.specs.Lists as Lists;
 ghost use Rattle.list.specs.Lists.{max_channels, max_steps};

@@ -1,0 +1,17 @@
+-- `put_numbers` meets its contract: the numbers so far are pasted into the slice. Assumes nothing.
+use mathlib.Core.Path.{◌≡◌, refl, ◌∙◌}
+use Prim.Native.Nat.{◌+◌, ◌-◌, ◌<◌, ◌≤◌}
+use native.Mathlib.Omega.{arith}
+use native.Mathlib.Numerals.{add-one}
+use borrow.Author.Rules.{rules}
+use lib.ListN.{length, length-set}
+use lib.Seq.{paste, paste-zero, paste-suc}
+use Rattle.record.proofs.Placed.{placed_paste}
+use Rattle.layout.proofs.put_numbers.Given as goal
+
+abbrev pub invariant-loop-k : goal.invariant-loop-k
+invariant-loop-k l =
+    (l.at + length l.numbers ≤ length l.initial.out) × (l.out ≡ paste l.initial.out l.at l.numbers l.k) × (length l.out ≡ length l.initial.out) × (l.k ≤ l.k-end) × (l.k-end ≡ length l.numbers)
+
+abbrev pub decreases-loop-k : goal.decreases-loop-k
+decreases-loop-k l = l.k-end - l.k

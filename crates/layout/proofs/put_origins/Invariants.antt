@@ -1,0 +1,18 @@
+-- `put_origins` meets its contract: the origins so far are pasted into the slice. Assumes nothing.
+use mathlib.Core.Path.{◌≡◌, refl, ◌∙◌}
+use Prim.Native.Nat.{◌-◌, ◌≤◌}
+use native.Mathlib.Omega.{arith}
+use borrow.Author.Rules.{rules}
+use lib.ListN.{length, length-set}
+use lib.Seq.{paste}
+use Rattle.list.specs.Lists.{max_channels, origins}
+use Rattle.list.proofs.Channels.{origins_length, origins_at}
+use Rattle.layout.proofs.Fronts.{front_none, front_more, front_all}
+use Rattle.layout.proofs.put_origins.Given as goal
+
+abbrev pub invariant-loop-k : goal.invariant-loop-k
+invariant-loop-k l =
+    (l.count ≤ max_channels) × (length (origins l.list) ≡ l.count) × (l.out ≡ paste l.initial.out 0 (origins l.list) l.k) × (length l.out ≡ length l.initial.out) × (l.k ≤ l.count) × (l.count ≤ length l.initial.out)
+
+abbrev pub decreases-loop-k : goal.decreases-loop-k
+decreases-loop-k l = l.count - l.k
