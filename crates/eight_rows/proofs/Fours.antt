@@ -1,6 +1,6 @@
 -- Four blocks put in at neighbouring positions (`with_lanes` of specs/Lanes.antt, four times), lane by lane: the four samples of the next lane go past
 -- the lanes that are there, which lie elsewhere. Assumes nothing.
-use mathlib.Core.Path.{◌≡◌, refl, ap}
+use mathlib.Core.Path.{◌≡◌, refl, ap, sym, ◌∙◌}
 use mathlib.Core.List.{List, [], ◌∷◌}
 use Prim.Native.Nat.{ℕ, zero, suc, ◌+◌, ◌*◌, ◌<◌, ◌≤◌}
 use native.Mathlib.Omega.{arith}
@@ -64,9 +64,8 @@ module _ (s : List ℤ) (at stride : ℕ) (a b c d : List ℤ) where
     three_more : three (suc n) ≡ set (set (set (three n) o (get_or a n (pos 0))) (o + 1) (get_or b n (pos 0))) (o + 2) (get_or c n (pos 0))
     three_more =
         let p : at + 2 + n * stride ≡ o + 2 = omega arith in
-        rw (
+        ap (λ (t : List ℤ). set (with_some t (at + 2) stride c n) (at + 2 + n * stride) (get_or c n (pos 0))) two_more ∙ rw (
           p,
-          two_more,
           some_past (set (two n) o (get_or a n (pos 0))) (at + 2) stride c n (o + 1) (get_or b n (pos 0)) (off 1 2 (omega arith) (omega arith)),
           some_past (two n) (at + 2) stride c n o (get_or a n (pos 0)) (off_first 2 (omega arith)),
         )
@@ -76,11 +75,9 @@ module _ (s : List ℤ) (at stride : ℕ) (a b c d : List ℤ) where
     fours_more =
         let e : n + 1 ≡ suc n = omega arith in
         let p : at + 3 + n * stride ≡ o + 3 = omega arith in
-        rw (
-          e,
+        rw e (sym (ap (λ (t : List ℤ). set (with_some t (at + 3) stride d n) (at + 3 + n * stride) (get_or d n (pos 0))) three_more ∙ rw (
           p,
-          three_more,
           some_past (set (set (three n) o (get_or a n (pos 0))) (o + 1) (get_or b n (pos 0))) (at + 3) stride d n (o + 2) (get_or c n (pos 0)) (off 2 3 (omega arith) (omega arith)),
           some_past (set (three n) o (get_or a n (pos 0))) (at + 3) stride d n (o + 1) (get_or b n (pos 0)) (off 1 3 (omega arith) (omega arith)),
           some_past (three n) (at + 3) stride d n o (get_or a n (pos 0)) (off_first 3 (omega arith)),
-        )
+        )))

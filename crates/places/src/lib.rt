@@ -4,6 +4,8 @@
 // and residuals and moves no sample. Total: any count and any entry may come
 // in. The private functions take slices, since an array lent as a slice tells
 // its length.
+#![tactic(auto)]
+
 ghost use Rattle.std.specs.Prelude.{◌≡◌, ◌++◌, ◌+◌, ◌*◌, ◌<◌, ◌≤◌, min, length, get_or, drop};
 ghost use Rattle.list.specs.Lists.{max_channels, halved};
 ghost use Rattle.places.specs.Places as Places;

@@ -4,8 +4,8 @@
 use mathlib.Core.Path.{◌≡◌, refl, sym, ap, ◌∙◌}
 use mathlib.Core.Bool.{Bool, true, false, cond}
 use mathlib.Core.List.{List, [], ◌∷◌}
-use mathlib.Core.Logic.{◌⊎◌, inl, inr}
-use Prim.Native.Nat.{ℕ, zero, suc, ◌+◌, ◌*◌, ◌<◌, ◌≤◌}
+use mathlib.Core.Logic.{inl}
+use Prim.Native.Nat.{ℕ, ◌+◌, ◌*◌}
 use native.Mathlib.Omega.{arith}
 use borrow.Author.Tests.{eqb-true}
 use lib.IntN.{ℤ, pos}
@@ -17,15 +17,15 @@ use Rattle.list.specs.Lists.{average, residual, range, stepped}
 use Rattle.list.specs.Questions.{judge_step}
 use Rattle.list.specs.Tables.{map}
 use Rattle.list.proofs.Acceptance.{step_accepted}
-use Rattle.line.specs.Uncut.{Squeeze, squeeze, Fitting, place, line_at, position_at, size, uncut}
-use Rattle.line.specs.Forward.{average_count, residual_count, line_in}
+use Rattle.line.specs.Uncut.{squeeze, Fitting, line_at, position_at, uncut}
+use Rattle.line.specs.Forward.{average_count, residual_count}
 use Rattle.line.specs.Plain.{AllInDomain}
 use Rattle.line.proofs.Tables.{is_table}
 use Rattle.line.proofs.Places.{place_back, line_room, position_room}
 use Rattle.line.proofs.Outputs.{uncut_length}
 use Rattle.line.proofs.Plain.{uncut_standard}
-use Rattle.runs.specs.Parts.{parts, joined}
-use Rattle.runs.specs.Runs.{lines_of, size_of, channel_back, all_back_by, residual_parts, other_parts, back_parts_by, back_parts, step_back, is_taken, layout, rebuilt}
+use Rattle.runs.specs.Parts.{parts}
+use Rattle.runs.specs.Runs.{lines_of, size_of, channel_back, all_back_by, residual_parts, back_parts, step_back, is_taken, layout, rebuilt}
 use Rattle.runs.specs.Claim.{Fills}
 use Rattle.runs.specs.Unbounded.{standard_back, standard_step, standard_run, RangeInDomain, StepInDomain, RunInDomain}
 use Rattle.runs.proofs.Shapes.{Shaped, parts_shaped, parts_samples}

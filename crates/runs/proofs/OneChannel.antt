@@ -1,6 +1,6 @@
 -- One channel there and back (specs/Runs.antt), and the channels of a range: the laws of lines (crate line) at a channel's sizes, which are those
 -- that a step gives its average and its residual. Assumes nothing.
-use mathlib.Core.Path.{◌≡◌, refl, sym, ap, ◌∙◌}
+use mathlib.Core.Path.{◌≡◌, refl, sym, ◌∙◌}
 use mathlib.Core.Bool.{Bool, true, false, cond}
 use mathlib.Core.List.{List, [], ◌∷◌}
 use Prim.Native.Nat.{ℕ, ◌+◌, ◌*◌}
@@ -14,8 +14,8 @@ use Rattle.channel.specs.Channel.{is_meta, samples}
 use Rattle.list.specs.Lists as Lists
 use Rattle.list.specs.Lists.{halved, rest, raised, sided, average, residual}
 use Rattle.list.specs.Tables.{map}
-use Rattle.line.specs.Uncut.{squeeze, uncut, size}
-use Rattle.line.specs.Forward.{average_count, residual_count, averages_of, residuals_of}
+use Rattle.line.specs.Uncut.{squeeze}
+use Rattle.line.specs.Forward.{average_count, residual_count}
 use Rattle.line.proofs.Outputs.{uncut_length}
 use Rattle.line.proofs.Sampled as Sampled
 use Rattle.line.proofs.Sampled.{uncut_samples}

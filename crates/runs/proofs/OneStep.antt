@@ -4,10 +4,10 @@
 use mathlib.Core.Path.{◌≡◌, refl, sym, ap, ◌∙◌}
 use mathlib.Core.Bool.{Bool, true, false, cond}
 use mathlib.Core.List.{List, [], ◌∷◌, ◌++◌, append_assoc}
-use Prim.Native.Nat.{ℕ, suc, ◌+◌, ◌-◌, ◌≤◌}
+use Prim.Native.Nat.{suc, ◌+◌, ◌≤◌}
 use native.Mathlib.Omega.{arith}
 use lib.IntN.{ℤ}
-use lib.ListN.{length, take, drop, length-append, length-take, length-drop, take-append-drop}
+use lib.ListN.{length, take, drop, length-append, length-drop, take-append-drop}
 use lib.Seq.{take_at, drop_at, length-take-le}
 use Rattle.channel.specs.declared.Channel.{Channel}
 use Rattle.list.specs.declared.Step.{Step}
@@ -15,9 +15,8 @@ use Rattle.list.specs.Lists as Lists
 use Rattle.list.specs.Lists.{average, residual, before, range, after, stepped, total}
 use Rattle.list.specs.Tables.{map}
 use Rattle.list.proofs.Parts.{parts_whole}
-use Rattle.list.proofs.Totals.{stepped_total}
 use Rattle.line.specs.Forward.{Samples}
-use Rattle.runs.specs.Parts.{parts, joined}
+use Rattle.runs.specs.Parts.{parts}
 use Rattle.runs.specs.Runs.{channel_averages, channel_residuals, all_back, each, behind, residual_parts, other_parts, back_parts, forward_parts, step_back, step_forward}
 use Rattle.runs.proofs.Shapes.{Shaped, AllSamples, shaped_length, joined_length, parts_shaped, joined_parts, parts_joined, shaped_append, shaped_front, shaped_back, parts_samples, joined_samples, all_append, all_take, all_drop}
 use Rattle.runs.proofs.OneChannel.{averages_shaped, residuals_shaped, back_shaped, all_averages, all_residuals, all_back_lem, range_again, range_averages, range_residuals}

@@ -3,17 +3,15 @@
 use mathlib.Core.Path.{◌≡◌, refl, sym, ap, ◌∙◌}
 use mathlib.Core.Bool.{Bool, true, false, cond}
 use mathlib.Core.List.{List, [], ◌∷◌}
-use Prim.Native.Nat.{ℕ, ◌+◌, ◌≤◌}
+use Prim.Native.Nat.{◌+◌, ◌≤◌}
 use borrow.Author.Tests.{eqb-true}
-use lib.Dec.{eqb}
 use lib.IntN.{ℤ}
 use lib.ListN.{length}
 use Rattle.channel.specs.declared.Channel.{Channel}
 use Rattle.list.specs.declared.Step.{Step}
-use Rattle.list.specs.Lists.{stepped, total}
+use Rattle.list.specs.Lists.{stepped}
 use Rattle.list.specs.Questions.{judge_step}
 use Rattle.list.proofs.Acceptance.{step_accepted}
-use Rattle.line.specs.Forward.{Samples}
 use Rattle.runs.specs.Runs.{is_taken, layout, rebuilt, squeezed, step_back, step_forward}
 use Rattle.runs.specs.Claim.{Fills, ExactlyOne}
 use Rattle.runs.proofs.OneStep.{forward_length, forward_samples, step_again, back_length, back_samples, back_again}

@@ -1,6 +1,6 @@
 -- The standard's whole run over whole numbers without a bound (ISO/IEC 18181-1: "The inverse takes the steps last first"), and the domain of demand 2
 -- for a whole run: "every sample read or made in any step". Definitions only.
-use Rattle.std.specs.Prelude.{◌≡◌, Bool, cond, List, [], ◌∷◌, ℕ, ◌+◌, ◌*◌, ℤ, pos, take, drop}
+use Rattle.std.specs.Prelude.{Bool, cond, List, [], ◌∷◌, ◌+◌, ◌*◌, ℤ, take, drop}
 use Rattle.channel.specs.declared.Channel.{Channel}
 use Rattle.list.specs.declared.Step.{Step}
 use Rattle.list.specs.Lists.{range, stepped}

@@ -2,6 +2,8 @@
 // `do_vsqueeze_step`): a rectangle of samples from its averages and residuals,
 // with a neighbour line on either side or none. Total: questions 5, 12 and 14
 // in that order, each refusal with its number and the output slice untouched.
+#![tactic(auto)]
+
 ghost use Rattle.std.specs.Prelude.{◌≡◌};
 ghost use Rattle.line.specs.Into.{uncut_into};
 ghost use Rattle.tile.specs.Call as Call;

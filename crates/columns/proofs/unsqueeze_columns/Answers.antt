@@ -1,0 +1,58 @@
+-- `unsqueeze_columns` meets its contract: where sizes fit it is the uncut squeeze, else the output stays (proofs/Into.antt of the crate line).
+-- Assumes nothing.
+use mathlib.Core.Path.{◌≡◌}
+use mathlib.Core.Bool.{true, false}
+use Prim.Native.Nat.{◌+◌, ◌*◌}
+use lib.ListN.{length}
+use Rattle.line.specs.Uncut.{Squeeze, squeeze, Fitting}
+use Rattle.line.specs.Into.{fits}
+use Rattle.line.proofs.Into.{fits_fitting, some_averages, some_lines, into_fits, into_kept, into_none}
+use Rattle.columns.proofs.unsqueeze_columns.Goals as goal
+use Rattle.columns.proofs.unsqueeze_columns.Lts as Lts
+use Rattle.columns.proofs.unsqueeze_columns.Reads as reads
+use Rattle.columns.proofs.unsqueeze_columns.Tie as tie
+
+abbrev Start : Type 0
+Start = Lts.Start tie.the-claims reads.Pre reads.Post
+
+abbrev Else-not-fits : Type 0
+Else-not-fits = Lts.Else1 tie.the-claims reads.Pre reads.Post
+
+-- the squeeze that is asked for
+abbrev asked : Start → Squeeze
+asked c = let a = c.args in squeeze false a.w a.m a.n a.avg.now a.res.now a.next.now a.prev.now
+
+-- past the first test sizes and slices fit
+tested : (c : Else-not-fits)
+    → let a = c.args in
+    fits a.w a.m a.n a.avg.now a.res.now a.next.now a.prev.now a.out.now ≡ true
+tested c = let f = c.fits in rw f.ensures at c.if-not-fits.false
+
+fitted : (c : Else-not-fits)
+    → let s = c in
+    Fitting (asked s.before.before) × (length s.args.out.now ≡ s.args.w * (s.args.m + s.args.n))
+fitted c =
+    let a = c.args in
+    fits_fitting a.w a.m a.n a.avg.now a.res.now a.next.now a.prev.now a.out.now false (tested c)
+
+pub returns-then-not-fits : goal.returns-then-not-fits
+returns-then-not-fits c =
+    let s = c in
+    let f = c.fits in
+    into_kept (asked s.before.before) s.args.out.now (rw f.ensures at c.if-not-fits.true)
+
+pub returns-then-out-eq0 : goal.returns-then-out-eq0
+returns-then-out-eq0 c = let s = c in into_none (asked s.before.before.before) s.args.out.now c.if-out-eq0.true
+
+pub unsqueeze_fitting-requires : goal.unsqueeze_fitting-requires
+unsqueeze_fitting-requires c =
+    let some = c in
+    let out = some.args.out.now in
+    let f = fitted some.before.before in
+    (f.0, some_averages f.0 out f.1 some.if-out-eq0.false, some_lines f.0 out f.1 some.if-out-eq0.false, f.1)
+
+pub returns : goal.returns
+returns c =
+    let else = c in
+    let s = else in
+    rw c.unsqueeze_fitting.ensures (into_fits (asked s.before.before.before.before.before.before) s.args.out.now (tested else.before.before.before.before))

@@ -1,0 +1,91 @@
+-- `place_step` meets its contract: where the step fits, room is made and the range is split; else nothing changes. Assumes nothing.
+use mathlib.Core.Path.{◌≡◌, refl, sym, ◌∙◌}
+use mathlib.Core.Bool.{true}
+use native.Mathlib.Omega.{arith}
+use Rattle.places.specs.Places as Places
+use Rattle.places.proofs.Steps.{residuals_inside}
+use Rattle.places.proofs.Placed.{fits_facts, refused, placed}
+use Rattle.places.proofs.place_step.Goals as goal
+use Rattle.places.proofs.place_step.Lts as Lts
+use Rattle.places.proofs.place_step.Reads as reads
+use Rattle.places.proofs.place_step.Tie as tie
+
+abbrev Else-not-step_fits : Type 0
+Else-not-step_fits = Lts.Else1 tie.the-claims reads.Pre reads.Post
+
+-- where the step fits
+fitting : (c : Else-not-step_fits) → Places.step_fits c.args.count c.args.step ≡ true
+fitting c = sym c.step_fits.ensures ∙ c.if-not-step_fits.false
+
+pub returns-then-not-step_fits : goal.returns-then-not-step_fits
+returns-then-not-step_fits c =
+    let a = c.args in
+    let r = refused a.count a.step a.widths.now a.heights.now a.homes.now a.slots.now (sym c.step_fits.ensures ∙ c.if-not-step_fits.true) in
+    (r.0, r.1, refl, refl, refl, refl)
+
+pub spread-requires : goal.spread-requires
+spread-requires c =
+    let r = c in
+    let a = r.args in
+    let f = fits_facts a.count a.step (fitting r.before.before.before.before.before.before) in
+    let i = residuals_inside a.count a.step f.0 in
+    let e = r.residuals_at-at.ensures in (
+      record {
+        widths = c.spread-arg-1.given.0.1;
+        heights = c.spread-arg-2-1.given.0.1;
+        homes = c.spread-arg-3-1.given.0.1;
+        slots = c.spread-arg-4-1.given.0.1;
+      },
+      omega arith,
+      f.1,
+    )
+
+pub split-requires : goal.split-requires
+split-requires c =
+    let r = c in
+    let a = r.args in
+    let f = fits_facts a.count a.step (fitting r.before.before.before.before.before.before.before.before.before.before.before.before) in
+    let i = residuals_inside a.count a.step f.0 in
+    let e = r.residuals_at-at.ensures in (
+      record {
+        widths = c.split-arg-1.given.0.1;
+        heights = c.split-arg-2-1.given.0.1;
+        homes = c.split-arg-3-1.given.0.1;
+        slots = c.split-arg-4-1.given.0.1;
+      },
+      omega arith,
+      omega arith,
+    )
+
+pub overflow_add-result : goal.overflow_add-result
+overflow_add-result c =
+    let r = c in
+    let a = r.args in
+    let f = fits_facts a.count a.step (fitting r.before.before.before.before.before.before.before.before.before.before.before.before.before) in
+    record { fits = omega arith }
+
+pub returns : goal.returns
+returns c =
+    let m = c in
+    let r = m in
+    let a = r.args in
+    let e = r.residuals_at-at.ensures in
+    let k = c.split.auto in
+    let g = m.spread.new in
+    let u = c.split.new in
+    placed a.count a.step a.widths.now a.heights.now a.homes.now a.slots.now
+    g.widths g.heights g.homes g.slots u.widths u.heights u.homes u.slots (fitting r.before.before.before.before.before.before.before.before.before.before.before.before.before)
+    (record {
+      widths = m.spread-arg-1.given.0.1;
+      heights = m.spread-arg-2-1.given.0.1;
+      homes = m.spread-arg-3-1.given.0.1;
+      slots = m.spread-arg-4-1.given.0.1;
+    })
+    (record {
+      widths = k.widths ∙ c.split-arg-1.given.0.1;
+      heights = k.heights ∙ c.split-arg-2-1.given.0.1;
+      homes = k.homes ∙ c.split-arg-3-1.given.0.1;
+      slots = k.slots ∙ c.split-arg-4-1.given.0.1;
+    })
+    (rw e at m.spread.ensures)
+    (rw e at c.split.ensures)

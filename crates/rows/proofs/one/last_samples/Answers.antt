@@ -1,0 +1,57 @@
+-- `last_samples` meets its contract: the pair made with the next average that was chosen, and the tail after it where there is one, are the row's end
+-- (`row_end`, `row_end_tail` of proofs/Row.antt). Assumes nothing.
+use mathlib.Core.Path.{◌∙◌}
+use Prim.Native.Nat.{◌-◌}
+use native.Mathlib.Omega.{arith}
+use mir.Facts.{to_z-of_z}
+use lib.IntN.{pos}
+use lib.ListN.{length, get_or, length-set}
+use Rattle.arith32.proofs.Whole.{back32}
+use Rattle.rows.proofs.Row.{row_end, row_end_tail}
+use Rattle.rows.proofs.one.last_samples.Goals as goal
+
+pub bounds-out-i-2 : goal.bounds-out-i-2
+bounds-out-i-2 c = simp length-set (omega (arith, c.requires))
+
+pub bounds-out-n : goal.bounds-out-n
+bounds-out-n c = simp length-set (omega (arith, c.requires))
+
+pub returns-then-n-avg : goal.returns-then-n-avg
+returns-then-n-avg c =
+    λ prev.
+    let told = c in
+    let pair = told.unsqueeze-p in
+    let next = told.last_next in
+    let taken = told in
+    let start = taken in
+    let a = start.args in
+    let i = length a.res.now - 1 in
+    let b1 = back32 (get_or a.avg.now i (pos 0)) taken.unsqueeze-arg-1.given in
+    let b2 = back32 (get_or a.res.now i (pos 0)) taken.unsqueeze-arg-2-1.given in
+    let b3 = back32 next.result next.type_inv in
+    let b4 = to_z-of_z start.ranges.prior in
+    row_end_tail (length a.avg.now) (length a.res.now) a.avg.now a.res.now a.next.now prev a.out.now next.result a.prior _ _ i
+    (omega arith) start.requires.1 start.requires.3 next.ensures
+    (back32 pair.result.first told.struct_told-1.given.0.1 ∙ rw (b1, b2, b3, b4) at pair.ensures.0)
+    (back32 pair.result.second c.struct_told-2-1.given.1.0.1 ∙ rw (b1, b2, b3, b4) at pair.ensures.1)
+    _ c.if-n-avg.true (back32 (get_or a.avg.now (length a.res.now) (pos 0)) c.out-1.given)
+
+pub returns-else-n-avg : goal.returns-else-n-avg
+returns-else-n-avg c =
+    λ prev.
+    let told = c in
+    let pair = told.unsqueeze-p in
+    let next = told.last_next in
+    let taken = told in
+    let start = taken in
+    let a = start.args in
+    let i = length a.res.now - 1 in
+    let b1 = back32 (get_or a.avg.now i (pos 0)) taken.unsqueeze-arg-1.given in
+    let b2 = back32 (get_or a.res.now i (pos 0)) taken.unsqueeze-arg-2-1.given in
+    let b3 = back32 next.result next.type_inv in
+    let b4 = to_z-of_z start.ranges.prior in
+    row_end (length a.avg.now) (length a.res.now) a.avg.now a.res.now a.next.now prev a.out.now next.result a.prior _ _ i
+    (omega arith) start.requires.1 start.requires.3 next.ensures
+    (back32 pair.result.first told.struct_told-1.given.0.1 ∙ rw (b1, b2, b3, b4) at pair.ensures.0)
+    (back32 pair.result.second c.struct_told-2-1.given.1.0.1 ∙ rw (b1, b2, b3, b4) at pair.ensures.1)
+    c.if-n-avg.false

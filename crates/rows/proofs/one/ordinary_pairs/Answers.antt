@@ -1,0 +1,51 @@
+-- `ordinary_pairs` meets its contract. The loop's invariant: the ordinary pairs up to i are made (`Ordinary` of the crate line). A turn adds one
+-- (`row_ordinary` of proofs/Row.antt). The measure is the pairs that are left. Assumes nothing.
+use mathlib.Core.Path.{◌≡◌, refl, ◌∙◌}
+use Prim.Native.Nat.{◌+◌}
+use native.Mathlib.Omega.{arith}
+use mir.Facts.{to_z-of_z}
+use lib.IntN.{pos}
+use lib.ListN.{length, get_or, length-set}
+use Rattle.arith32.proofs.Whole.{back32}
+use Rattle.line.proofs.Pairs.{none, join}
+use Rattle.rows.proofs.Row.{row_ordinary}
+use Rattle.rows.proofs.one.ordinary_pairs.Goals as goal
+
+pub loop-i-init : goal.loop-i-init
+loop-i-init c = (none, omega arith)
+
+pub bounds-out-i-in-loop-i : goal.bounds-out-i-in-loop-i
+bounds-out-i-in-loop-i c = simp length-set (omega (arith, c.loop-i.invariant.0.long))
+
+pub loop-i-preserved : goal.loop-i-preserved
+loop-i-preserved c =
+    let told = c in
+    let pair = told.unsqueeze-p in
+    let taken = told in
+    let head = taken in
+    let a = head.args in
+    let i = head.loop-i.i in
+    let l = head.loop-i.invariant.0.long in
+    let b1 = back32 (get_or a.avg.now i (pos 0)) taken.unsqueeze-arg-1.given in
+    let b2 = back32 (get_or a.res.now i (pos 0)) taken.unsqueeze-arg-in-loop-i-1.given in
+    let b3 = back32 (get_or a.avg.now (i + 1) (pos 0)) taken.unsqueeze-arg-in-loop-i-2-1.given in
+    let z : 0 + i ≡ i = omega arith in (
+      join head.requires.0 (omega arith) head.loop-i.invariant.0
+          (rw z
+          (row_ordinary (length a.avg.now) (length a.res.now) a.avg.now a.res.now head.loop-i.out (get_or a.avg.now (i + 1) (pos 0)) _ _ _ i
+          (omega arith) head.requires.0 (omega arith)
+          (back32 pair.result.first told.struct_told-1.given.0.1 ∙ rw (b1, b2, b3) at pair.ensures.0)
+          (back32 pair.result.second c.struct_told-in-loop-i-1.given.1.0.1 ∙ rw (b1, b2, b3) at pair.ensures.1)
+          refl)),
+      omega arith,
+    )
+
+pub shape_of-out : goal.shape_of-out
+shape_of-out c = c.loop-i.invariant.0.long
+
+pub returns : goal.returns
+returns c =
+    let head = c in
+    let a = head.args in
+    let e : head.loop-i.i ≡ a.to = omega arith in
+    rw (e, to_z-of_z head.ranges.prior) at head.loop-i.invariant.0
