@@ -267,7 +267,7 @@ def convert(name, data, crate, said):
             takes[h.group(1)] = f.at.get(rename[h.group(1)])
 
     def field(q):
-        q = {"inv": "invariant", "taken": "true", "left": "false"}.get(q, q)
+        q = {"inv": "invariant", "taken": "true"}.get(q, q)
         return q.replace("-", "_") if re.search("[a-z0-9]-[a-z0-9]", q) and q not in f.new_fields else q
 
     def argument(q):
@@ -344,6 +344,8 @@ def convert(name, data, crate, said):
                     i += 1
             for k in range(max(i, 1), len(parts)):
                 parts[k] = field(parts[k])
+                if parts[k] == "left" and re.search(r"^if|test$", parts[k - 1]):
+                    parts[k] = "false"
                 if k and parts[k - 1] == "args":
                     parts[k] = argument(parts[k])
             return ".".join(parts)

@@ -4,6 +4,8 @@
 // residual that lie in the pyramid or, if a step has made them, at their homes in
 // the other slice: a step moves no other sample. Total: questions 3 to 11 and 14
 // in that order, each refusal with its number and both lent slices untouched.
+#![tactic(auto)]
+
 ghost use Rattle.std.specs.Prelude.{◌≡◌, cond, ◌+◌, ◌<◌, ◌≤◌, eqb, length};
 ghost use Rattle.channel.specs.Channel.{samples};
 ghost use Rattle.list.specs.Lists.{max_channels, channels, average};
