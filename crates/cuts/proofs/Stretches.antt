@@ -2,17 +2,17 @@
 -- averages and residuals are those from pair `from t` on, the next average at the tile's end is the next tile's first, and the output before
 -- is the last that the tile before wrote. So the tile's call leaves its part of the uncut squeeze's output. Assumes nothing.
 use mathlib.Core.Path.{◌≡◌, sym, ap, ◌∙◌}
-use mathlib.Core.Bool.{true, false, cond}
+use mathlib.Core.Bool.{true, false}
 use mathlib.Core.List.{List, [], ◌∷◌}
 use mathlib.Core.Logic.{◌⊎◌, inl, inr}
 use Prim.Native.Nat.{ℕ, zero, suc, ◌+◌, ◌-◌, ◌*◌, ◌<◌, ◌≤◌}
 use native.Mathlib.Omega.{arith}
 use borrow.Author.Tests.{eq-eqb, ne_eqb}
-use lib.IntN.{ℤ, pos}
+use lib.IntN.{ℤ}
 use lib.ListN.{length, take, drop, length-take, length-drop}
 use Rattle.line.specs.Line.{Line, next_average, before, sample}
-use Rattle.line.specs.Uncut.{Squeeze, squeeze, Fitting, place, line_at, position_at, size, table, outer, line_of, output_at, uncut}
-use Rattle.cuts.specs.Cut.{Strip, StripFits, is_last, end, tile_averages, tile_residuals, tile_size, part, line_across, tile_avg, tile_res, tile_out, tile_next, tile_prev, tile_call}
+use Rattle.line.specs.Uncut.{Squeeze, squeeze, Fitting, line_at, position_at, size, outer, line_of, output_at, uncut}
+use Rattle.cuts.specs.Cut.{Strip, StripFits, is_last, tile_averages, tile_residuals, tile_size, part, line_across, tile_avg, tile_res, tile_out, tile_next, tile_prev, tile_call}
 use Rattle.tile.specs.Call.{answer, after}
 use Rattle.line.proofs.Tables.{table_cong}
 use Rattle.line.proofs.Places.{line_room, position_room}

@@ -7,7 +7,7 @@ use lib.IntN.{pos}
 use lib.ListN.{get_or}
 use Rattle.line.specs.Uncut.{Squeeze, Fitting, place, size, uncut}
 use Rattle.cuts.specs.Cut.{Strip, StripFits, Cut, tile_size, tile_start, tile_out, State}
-use Rattle.cuts.specs.Claim.{AllHold, LiesIn, place_in, InOneTile, InItsPlace, EachInItsPlace}
+use Rattle.cuts.specs.Claim.{AllHold, LiesIn, place_in, InOneTile, EachInItsPlace}
 use Rattle.cuts.proofs.Parts.{part_at}
 use Rattle.cuts.proofs.Stretches.{Which, ends, goes_on, which}
 use Rattle.cuts.proofs.Consecutive.{Consecutive, At, exactly_one}

@@ -13,7 +13,7 @@ use lib.IntN.{ℤ}
 use lib.ListN.{length}
 use Rattle.line.specs.Uncut.{Squeeze, Fitting}
 use Rattle.tile.specs.Call.{Call, answer, after}
-use Rattle.cuts.specs.Cut.{Cut, tile_size, tile_out, tile_call, part, State, Event, runs, other, on, stored, happens, together, allowed, all_allowed, Begins, AllRan}
+use Rattle.cuts.specs.Cut.{Cut, tile_size, tile_out, tile_call, State, Event, runs, other, on, stored, happens, together, allowed, all_allowed, Begins, AllRan}
 use Rattle.cuts.specs.Claim as Claim
 use Rattle.cuts.specs.Claim.{AllAccepted, AllHold, GiveUncut}
 use Rattle.line.proofs.Lines.{lt_or_ge}

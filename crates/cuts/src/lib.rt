@@ -3,3 +3,4 @@
 // calls on the tiles' slices, each by the tile call's own contract (crate
 // tile); the claim of demand 3 over it, and document 01's own case. In proofs/
 // their theorems. There is no code here.
+#![tactic(auto)]

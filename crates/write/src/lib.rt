@@ -4,6 +4,8 @@
 // moves no sample of another channel; what the steps leave goes to its place in
 // the pyramid at the end. Total: questions 3 to 11 of list and plan, then 14, each
 // refusal with its number and the slices untouched.
+#![tactic(auto)]
+
 ghost use Rattle.std.specs.Prelude.{◌≡◌, true, ◌+◌, ◌*◌, ◌≤◌, length};
 ghost use Rattle.numbers.specs.Numbers.{max_side};
 ghost use Rattle.channel.specs.Channel.{sides_fit, samples};

@@ -1,0 +1,14 @@
+-- `lines_of` meets its contract: one return for each direction, and neither side is above the limit. Assumes nothing.
+use borrow.Author.Rules.{rules}
+use Rattle.channel.proofs.Sides.{fit_sides}
+use Rattle.write.proofs.lines_of.Goals as goal
+
+pub returns-then-horizontal : goal.returns-then-horizontal
+returns-then-horizontal c =
+    let start = c in
+    (search rules, (fit_sides start.args.c start.requires).1)
+
+pub returns-else-horizontal : goal.returns-else-horizontal
+returns-else-horizontal c =
+    let start = c in
+    (search rules, (fit_sides start.args.c start.requires).0)
