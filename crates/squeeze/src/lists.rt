@@ -7,8 +7,7 @@ ghost use Rattle.numbered.specs.Numbered as Numbered;
 
 // The listing of the record as text, over the front of `text`, and its length as
 // the first of `size`.
-#[unsafe(no_mangle)]
-pub extern "C" fn squeeze_listing(bytes: &[u8], text: &mut [u8], size: &mut [u32]) -> u32
+pub fn squeeze_listing(bytes: &[u8], text: &mut [u8], size: &mut [u32]) -> u32
     ensures { (result ≡ Listing.list_answer bytes.now text.old size.old) × (text.new ≡ Listing.text_after bytes.now text.old size.old) × (size.new ≡ Listing.size_after bytes.now text.old size.old) }
 {
     listing::list_record(bytes, text, size)
@@ -18,8 +17,7 @@ pub extern "C" fn squeeze_listing(bytes: &[u8], text: &mut [u8], size: &mut [u32
 // and channels, and how many of these are coarse; the steps that are meant; the
 // rewritten list; and for each of its channels the one of the record's that it
 // was made from.
-#[unsafe(no_mangle)]
-pub extern "C" fn squeeze_layout(
+pub fn squeeze_layout(
     bytes: &[u8],
     counts: &mut [u32],
     steps: &mut [u32],
@@ -33,8 +31,7 @@ pub extern "C" fn squeeze_layout(
 
 // The record of a plan version, a list and its steps given as numbers, over the
 // front of `bytes`, and its length as the first of `size`.
-#[unsafe(no_mangle)]
-pub extern "C" fn squeeze_record(
+pub fn squeeze_record(
     version: u32,
     channels: &[u32],
     steps: &[u32],

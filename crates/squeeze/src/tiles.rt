@@ -12,8 +12,7 @@ const RECT_NUMBERS: usize = 4;
 
 // One tile of an inverse squeeze, horizontal unless the first number is 0, with
 // the lines of its neighbours or none.
-#[unsafe(no_mangle)]
-pub extern "C" fn squeeze_tile<'a>(
+pub fn squeeze_tile<'a>(
     horizontal: u32,
     aw: usize,
     ah: usize,
@@ -35,8 +34,7 @@ pub extern "C" fn squeeze_tile<'a>(
 }
 
 // The rectangle of a channel at a grid position: x, y, width and height.
-#[unsafe(no_mangle)]
-pub extern "C" fn squeeze_grid_rect(
+pub fn squeeze_grid_rect(
     width: u32,
     height: u32,
     hshift: u8,

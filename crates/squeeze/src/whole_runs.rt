@@ -6,8 +6,7 @@ ghost use Rattle.squeeze.specs.Entry as Entry;
 
 // The picture of the pyramid that the record in `bytes` describes; `work` is as long as
 // the picture and all zero afterwards.
-#[unsafe(no_mangle)]
-pub extern "C" fn squeeze_rebuild(
+pub fn squeeze_rebuild(
     bytes: &[u8],
     pyramid: &[i32],
     picture: &mut [i32],
@@ -23,8 +22,7 @@ pub extern "C" fn squeeze_rebuild(
 }
 
 // The pyramid of the picture that the record describes.
-#[unsafe(no_mangle)]
-pub extern "C" fn squeeze_write(
+pub fn squeeze_write(
     bytes: &[u8],
     picture: &[i32],
     pyramid: &mut [i32],
