@@ -182,7 +182,7 @@ def main(argv):
         return "\n".join(lines)
 
     pages = {n: turned(n) for n in TURNED_ALREADY} | rows
-    pages = {n: rows.get(t, t) for n, t in pages.items()}
+    pages = {n: rows.get(t, t) if "-" in n else t for n, t in pages.items()}
     page_word = swap(pages)
 
     def page(text):

@@ -3,3 +3,4 @@
 // coarse count and long strips of document 02, A.2 and A.8 (specs/Coarse.antt,
 // specs/Strips.antt), and the programs that must not get through
 // (specs/Wrong.antt); their theorems are in proofs/. There is no code here.
+#![tactic(auto)]
