@@ -1,6 +1,6 @@
 -- The product by 55555556 hex, which is a third of 2^32 + 2: it fits 64 bits, its upper half is a sample, and the upper half is the whole third
 -- of every sample that is not negative. Assumes nothing.
-use mathlib.Core.Path.{◌≡◌, refl, ap}
+use mathlib.Core.Path.{◌≡◌, ap}
 use Prim.Native.Nat.{ℕ, ◌<◌, ◌*◌, ◌/◌}
 use native.Mathlib.Omega.{arith}
 use lib.Dec.{lit<}

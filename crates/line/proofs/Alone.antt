@@ -1,20 +1,20 @@
 -- A line alone, there and back: the samples that rebuilding makes of a line's averages and residuals are the line, and the averages and
 -- residuals of the samples that rebuilding makes are those it was made of. Both go along the line, since the output before each pair is the
 -- same on both sides; at a pair it is the pair's bijection (crate pair). Assumes nothing.
-use mathlib.Core.Path.{◌≡◌, refl, sym, ap, ◌∙◌}
-use mathlib.Core.Bool.{Bool, true, false, cond}
-use mathlib.Core.List.{List, []}
+use mathlib.Core.Path.{◌≡◌, refl, sym, ◌∙◌}
+use mathlib.Core.Bool.{cond}
+use mathlib.Core.List.{[]}
 use mathlib.Core.Logic.{◌⊎◌, inl, inr}
-use Prim.Native.Nat.{ℕ, zero, suc, ◌+◌, ◌-◌, ◌*◌, ◌/◌, ◌%◌, ◌<◌, ◌≤◌}
+use Prim.Native.Nat.{ℕ, zero, suc, ◌+◌, ◌<◌, ◌≤◌}
 use native.Mathlib.Omega.{arith}
 use borrow.Author.Tests.{lt-ltb, le-ltb}
 use lib.Dec.{ltb}
 use lib.IntN.{ℤ}
 use Rattle.arith32.specs.Arith.{Sample}
-use Rattle.pair.specs.Pair.{first, second, average, residual}
+use Rattle.pair.specs.Pair.{first, second, average}
 use Rattle.pair.proofs.Inverse.{bijection}
-use Rattle.line.specs.Line.{Line, or_else, next_average, before, first_at, second_at, sample}
-use Rattle.line.proofs.Lines.{Fits, Half, even, odd, half, sample_first, sample_second, sample_tail, before_next, before_first, next_inside, next_last, lt_or_ge}
+use Rattle.line.specs.Line.{Line, next_average, before, sample}
+use Rattle.line.proofs.Lines.{Half, even, odd, half, sample_first, sample_second, sample_tail, before_next, before_first, next_inside, next_last, lt_or_ge}
 use Rattle.line.specs.Forward.{average_count, residual_count, average_at, next_at, prev_at, residual_at}
 
 -- ---- average i, inside a pair and at an odd end

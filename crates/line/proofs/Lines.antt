@@ -1,17 +1,14 @@
 -- Laws of the line rule (specs/Line.antt), for lines in any direction. The samples of pair i stand at 2i and 2i + 1, a tail at the end. And a
 -- line t that is a stretch of a line l from pair `from` on (`Stretch`) has l's samples from 2 from on: by induction along t, since before
 -- each pair both have the same output. A line is a stretch of another at 0 where the two have the same entries. Assumes nothing.
-use mathlib.Core.Path.{◌≡◌, refl, sym, ap, ◌∙◌}
-use mathlib.Core.Bool.{Bool, true, false, cond}
-use mathlib.Core.List.{List, []}
+use mathlib.Core.Path.{◌≡◌, refl, sym, ◌∙◌}
+use mathlib.Core.Bool.{Bool, true, false}
 use mathlib.Core.Logic.{◌⊎◌, inl, inr}
-use Prim.Native.Nat.{ℕ, zero, suc, ◌+◌, ◌-◌, ◌*◌, ◌/◌, ◌%◌, ◌<◌, ◌≤◌}
+use Prim.Native.Nat.{ℕ, zero, suc, ◌+◌, ◌/◌, ◌%◌, ◌<◌, ◌≤◌}
 use native.Mathlib.Omega.{arith}
-use borrow.Author.Tests.{lt-ltb, le-ltb, eq-eqb, ne_eqb}
+use borrow.Author.Tests.{lt-ltb, le-ltb}
 use lib.Dec.{T, ltb, ltb→lt, nltb→le}
 use mathlib.Core.Bool.{not}
-use lib.IntN.{ℤ}
-use Rattle.pair.specs.Pair.{first, second}
 use Rattle.line.specs.Line.{Line, or_else, next_average, before, first_at, second_at, sample}
 
 -- ---- comparisons

@@ -1,11 +1,11 @@
 -- What stands in the lines of a squeeze and in its uncut output (specs/Uncut.antt), and in a strip's part of an outer line. Assumes nothing.
-use mathlib.Core.Path.{◌≡◌, refl, sym, ap, ◌∙◌}
+use mathlib.Core.Path.{◌≡◌, refl, sym, ◌∙◌}
 use mathlib.Core.List.{List, [], ◌∷◌}
 use Prim.Native.Nat.{ℕ, zero, suc, ◌+◌, ◌*◌, ◌<◌}
 use native.Mathlib.Omega.{arith}
 use lib.IntN.{ℤ, pos}
 use lib.ListN.{length, get_or, take, drop}
-use Rattle.line.specs.Line.{Line, sample}
+use Rattle.line.specs.Line.{sample}
 use Rattle.line.specs.Uncut.{Squeeze, place, size, outer, line_of, output_at, uncut}
 use Rattle.line.proofs.Tables.{table_length, table_at}
 use Rattle.line.proofs.Places.{line_back, position_back, place_room_lem}

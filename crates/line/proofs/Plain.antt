@@ -1,24 +1,19 @@
 -- On the domain of demand 2 the uncut squeeze without outer lines is the standard's inverse step over whole numbers without a bound: along a
 -- line each pair's inputs lie in the domain, where pair and standard agree (crate standard), so the outputs before the pairs agree too.
 -- Assumes nothing.
-use mathlib.Core.Path.{◌≡◌, refl, sym, ap, ◌∙◌}
-use mathlib.Core.Bool.{Bool, true, false, cond}
-use mathlib.Core.List.{List, [], ◌∷◌}
+use mathlib.Core.Path.{◌≡◌, ◌∙◌}
+use mathlib.Core.List.{[]}
 use mathlib.Core.Logic.{◌⊎◌, inl, inr}
-use Prim.Native.Nat.{ℕ, zero, suc, ◌+◌, ◌*◌, ◌/◌, ◌%◌, ◌<◌, ◌≤◌}
+use Prim.Native.Nat.{ℕ, zero, suc, ◌+◌, ◌/◌, ◌<◌, ◌≤◌}
 use native.Mathlib.Omega.{arith}
-use borrow.Author.Tests.{lt-ltb, le-ltb}
-use lib.Dec.{ltb}
-use lib.IntN.{ℤ, pos}
-use lib.ListN.{length, get_or}
-use Rattle.pair.specs.Pair.{first, second}
+use borrow.Author.Tests.{le-ltb}
 use Rattle.standard.specs.Domain.{InDomain}
 use Rattle.standard.specs.Standard as Std
 use Rattle.standard.proofs.Agree.{first_standard, second_standard}
-use Rattle.line.specs.Line.{Line, or_else, next_average, before, first_at, second_at, sample}
-use Rattle.line.specs.Uncut.{Squeeze, Fitting, place, size, uncut, outer, line_of}
-use Rattle.line.specs.Plain.{AllInDomain, InDomainWhole, IsStandard}
-use Rattle.line.proofs.Lines.{Fits, sample_first, sample_second, before_next, before_first, next_inside, next_last, lt_or_ge}
+use Rattle.line.specs.Line.{Line, next_average, before, sample}
+use Rattle.line.specs.Uncut.{Squeeze, Fitting, place, size, uncut, line_of}
+use Rattle.line.specs.Plain.{InDomainWhole, IsStandard}
+use Rattle.line.proofs.Lines.{Fits, sample_second, before_next, before_first, next_inside, next_last, lt_or_ge}
 use Rattle.line.proofs.Places.{place_room_lem}
 use Rattle.line.proofs.Outputs.{outer_none}
 use Rattle.line.proofs.Outputs.{uncut_at, uncut_length, line_averages, line_residuals, line_avg, line_res, line_next, line_prev}

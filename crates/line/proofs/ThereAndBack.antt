@@ -1,25 +1,23 @@
 -- A channel's lines together: rebuilding undoes the writer's averages and residuals, and the other way round (Alone.antt, line by line).
 -- Assumes nothing.
-use mathlib.Core.Path.{◌≡◌, refl, sym, ap, ◌∙◌}
-use mathlib.Core.Bool.{Bool, true, false, cond}
+use mathlib.Core.Path.{◌≡◌, sym, ap, ◌∙◌}
+use mathlib.Core.Bool.{Bool}
 use mathlib.Core.List.{List, []}
 use mathlib.Core.Logic.{◌⊎◌, inl, inr}
-use Prim.Native.Nat.{ℕ, zero, suc, ◌+◌, ◌-◌, ◌*◌, ◌/◌, ◌<◌, ◌≤◌}
+use Prim.Native.Nat.{ℕ, zero, suc, ◌+◌, ◌*◌, ◌<◌, ◌≤◌}
 use native.Mathlib.Omega.{arith}
 use borrow.Author.Tests.{lt-ltb, le-ltb}
-use lib.Dec.{ltb}
 use lib.IntN.{ℤ, pos}
 use lib.ListN.{length, get_or}
-use lib.Seq.{ext_get_or}
 use Rattle.arith32.specs.Arith.{Sample}
-use Rattle.line.specs.Line.{Line, sample}
-use Rattle.line.specs.Uncut.{Squeeze, squeeze, place, line_at, position_at, size, table, line_of, output_at, uncut}
+use Rattle.line.specs.Line.{sample}
+use Rattle.line.specs.Uncut.{Squeeze, squeeze, place, line_at, position_at, size, line_of, output_at, uncut}
 use Rattle.line.specs.Forward.{average_count, residual_count, average_at, next_at, prev_at, residual_at, line_in, averages_of, residuals_of, Samples}
 use Rattle.line.proofs.Tables.{table_length, table_at, is_table}
 use Rattle.line.proofs.Places.{line_back, position_back, place_back, place_room_lem, line_room, position_room}
 use Rattle.line.proofs.Lines.{Fits, Same, same_sample, lt_or_ge}
 use Rattle.line.proofs.Outputs.{outer_none}
-use Rattle.line.proofs.Outputs.{uncut_at, uncut_length, line_averages, line_residuals, line_avg, line_res, line_next, line_prev}
+use Rattle.line.proofs.Outputs.{uncut_at, line_averages, line_residuals, line_avg, line_res, line_next, line_prev}
 use Rattle.line.proofs.Alone.{squeezed_line, line_again, averages_again, residuals_again}
 
 -- ---- what stands at a place of the averages and of the residuals

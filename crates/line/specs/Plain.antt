@@ -1,5 +1,5 @@
 -- Samples of the domain of demand 2, and the uncut squeeze without outer lines on them. Statements only.
-use Rattle.std.specs.Prelude.{◌≡◌, List, [], ℕ, ◌*◌, ◌<◌, ℤ, pos, length, get_or}
+use Rattle.std.specs.Prelude.{◌≡◌, List, ℕ, ◌<◌, ℤ, pos, length, get_or}
 use Rattle.standard.specs.Domain.{InDomain}
 use Rattle.standard.specs.Standard as Std
 use Rattle.line.specs.Uncut.{Squeeze, place, size, uncut}

@@ -1,8 +1,8 @@
 -- The pair is a bijection modulo 2^32 (specs/Bijection.antt). The idea: for fixed neighbours the tendency depends on the average alone, and
 -- both ways meet at the same average; what one way adds to it the other takes away, whatever `half` and the tendency are. Assumes nothing.
-use mathlib.Core.Path.{◌≡◌, sym, ap, ◌∙◌}
+use mathlib.Core.Path.{◌≡◌, sym, ◌∙◌}
 use lib.IntN.{ℤ}
-use Rattle.arith32.specs.Arith.{Sample, ◌⊕◌, ◌⊖◌, half}
+use Rattle.arith32.specs.Arith.{Sample, ◌⊖◌, half}
 use Rattle.arith32.proofs.Residues.{minus_plus, plus_minus, minus_minus, wrap_sample}
 use Rattle.tendency.specs.Tendency.{tendency}
 use Rattle.pair.specs.Pair.{difference, first_of, second_of, first, second, average, residual_of, residual}

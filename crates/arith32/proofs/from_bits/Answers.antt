@@ -1,7 +1,6 @@
 -- `from_bits` meets its contract: 32 bits as an i64 are below 2^32, and `narrow` wraps them. Assumes nothing.
 use mathlib.Core.Path.{◌≡◌, ◌∙◌}
 use native.Mathlib.Nat.{lt_of_lt_of_le}
-use borrow.Author.Rules.{rules}
 use lib.Dec.{lit≤}
 use lib.IntN.{pos}
 use mir.Syntax.{w64}

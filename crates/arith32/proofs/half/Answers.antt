@@ -1,6 +1,5 @@
 -- `half` meets its contract: proofs/Halves.antt, at the machine's sign bit. Assumes nothing.
 use mathlib.Core.Path.{refl}
-use borrow.Author.Rules.{rules}
 use lib.IntN.{pos}
 use lib.Signed.{lt_z}
 use mir.Facts.{to_z-of_z}

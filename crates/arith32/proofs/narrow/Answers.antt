@@ -83,4 +83,3 @@ pub returns-else-s-ltminus2147483648 : goal.returns-else-s-ltminus2147483648
 returns-else-s-ltminus2147483648 c =
     let s = c.before.before in
     to_z-of_z (overflow_cast-result-else-s-ltminus2147483648 c) ∙ rw (to_z-of_z s.ranges.s) (is_wrap s.args.s s.args.s (inside-at c) refl)
-

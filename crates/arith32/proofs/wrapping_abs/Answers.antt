@@ -1,5 +1,4 @@
 -- `wrapping_abs` meets its contract, one return for each sign. Assumes nothing.
-use borrow.Author.Rules.{rules}
 use mir.Facts.{to_z-of_z}
 use Rattle.arith32.specs.Arith.{wrapped_abs}
 use Rattle.arith32.proofs.Whole.{back32}

@@ -1,14 +1,8 @@
 -- `unsqueeze_block` meets its contract. The loop's invariant: both blocks, which begin as copies of avg and prev, are filled up to lane i
 -- (proofs/Lanes.antt). The measure is the lanes that are left. Assumes nothing.
-use mathlib.Core.Path.{◌≡◌, ◌∙◌}
 use Prim.Native.Nat.{◌-◌, ◌≤◌}
-use native.Mathlib.Omega.{arith}
-use borrow.Author.Rules.{rules}
-use lib.IntN.{pos}
-use lib.ListN.{get_or}
-use Rattle.arith32.proofs.Whole.{back32}
 use Rattle.pair.specs.Pair.{first, second}
-use Rattle.block.proofs.Lanes.{Filled, filled_none, filled_more, filled_all}
+use Rattle.block.proofs.Lanes.{Filled}
 use Rattle.block.proofs.unsqueeze_block.Given as goal
 
 abbrev pub invariant-loop-i : goal.invariant-loop-i

@@ -1,11 +1,10 @@
 -- `clear` meets its contract: after i turns the front is overwritten by i zeros (proofs/Overwritten.antt). Assumes nothing.
-use mathlib.Core.Path.{◌≡◌, refl, ◌∙◌}
-use Prim.Native.Nat.{◌-◌, ◌≤◌}
+use mathlib.Core.Path.{refl, ◌∙◌}
 use native.Mathlib.Omega.{arith}
 use borrow.Author.Rules.{rules}
-use lib.ListN.{length, length-set}
+use lib.ListN.{length-set}
 use Rattle.buffer.specs.Buffer.{zeros}
-use Rattle.buffer.proofs.Overwritten.{overwritten, overwritten_more, overwritten_zeros, zeros_length, zeros_at}
+use Rattle.buffer.proofs.Overwritten.{overwritten_more, overwritten_zeros, zeros_length, zeros_at}
 use Rattle.buffer.proofs.clear.Goals as goal
 
 pub loop-i-init : goal.loop-i-init

@@ -1,11 +1,9 @@
 -- `clear` meets its contract: after i turns the front is overwritten by i zeros (proofs/Overwritten.antt). Assumes nothing.
-use mathlib.Core.Path.{◌≡◌, refl, ◌∙◌}
+use mathlib.Core.Path.{◌≡◌}
 use Prim.Native.Nat.{◌-◌, ◌≤◌}
-use native.Mathlib.Omega.{arith}
-use borrow.Author.Rules.{rules}
-use lib.ListN.{length, length-set}
+use lib.ListN.{length}
 use Rattle.buffer.specs.Buffer.{zeros}
-use Rattle.buffer.proofs.Overwritten.{overwritten, overwritten_more, overwritten_zeros, zeros_length, zeros_at}
+use Rattle.buffer.proofs.Overwritten.{overwritten}
 use Rattle.buffer.proofs.clear.Given as goal
 
 abbrev pub invariant-loop-i : goal.invariant-loop-i

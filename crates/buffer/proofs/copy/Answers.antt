@@ -1,13 +1,11 @@
 -- `copy` meets its contract: after i turns the front of `to` is overwritten by the first i samples (proofs/Overwritten.antt). Assumes nothing.
-use mathlib.Core.Path.{◌≡◌, refl, ◌∙◌}
-use Prim.Native.Nat.{◌-◌, ◌≤◌}
+use mathlib.Core.Path.{refl, ◌∙◌}
 use native.Mathlib.Omega.{arith}
 use borrow.Author.Rules.{rules}
 use mir.Syntax.{w32}
 use mir.Facts.{to_z-of_z}
-use lib.ListN.{length, length-set}
-use Rattle.buffer.specs.Buffer.{both}
-use Rattle.buffer.proofs.Overwritten.{overwritten, overwritten_more, overwritten_copied}
+use lib.ListN.{length-set}
+use Rattle.buffer.proofs.Overwritten.{overwritten_more, overwritten_copied}
 use Rattle.buffer.proofs.copy.Goals as goal
 
 pub loop-i-init : goal.loop-i-init

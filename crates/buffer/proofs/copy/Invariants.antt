@@ -1,12 +1,9 @@
 -- `copy` meets its contract: after i turns the front of `to` is overwritten by the first i samples (proofs/Overwritten.antt). Assumes nothing.
-use mathlib.Core.Path.{◌≡◌, refl, ◌∙◌}
+use mathlib.Core.Path.{◌≡◌}
 use Prim.Native.Nat.{◌-◌, ◌≤◌}
-use native.Mathlib.Omega.{arith}
-use borrow.Author.Rules.{rules}
-use mir.Facts.{to_z-of_z}
-use lib.ListN.{length, length-set}
+use lib.ListN.{length}
 use Rattle.buffer.specs.Buffer.{both}
-use Rattle.buffer.proofs.Overwritten.{overwritten, overwritten_more, overwritten_copied}
+use Rattle.buffer.proofs.Overwritten.{overwritten}
 use Rattle.buffer.proofs.copy.Given as goal
 
 abbrev pub invariant-loop-i : goal.invariant-loop-i

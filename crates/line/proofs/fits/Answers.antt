@@ -1,8 +1,5 @@
 -- `fits` meets its contract: each test is the definition's, in its order. Assumes nothing.
-use mathlib.Core.Bool.{◌&&◌}
 use native.Mathlib.Omega.{arith}
-use borrow.Author.Rules.{rules}
-use borrow.Author.Tests.{not-true, not-false}
 use Rattle.line.proofs.Into.{too_few, too_many, no_area, by_rest}
 use Rattle.line.proofs.fits.Goals as goal
 

@@ -4,12 +4,10 @@ use mathlib.Core.Bool.{Bool, true, false, ◌&&◌}
 use Prim.Native.Nat.{ℕ, ◌+◌, ◌*◌, ◌/◌, ◌%◌, ◌<◌}
 use native.Mathlib.Omega.{arith}
 use native.Mathlib.Nat.{div-add-mod', mul_comm}
-use borrow.Author.Rules.{rules}
 use borrow.Author.Tests.{eqb-true, eqb-false, eq-eqb, ne_eqb}
 use lib.Dec.{eqb}
 use Rattle.line.proofs.Places.{row_of, rest_of}
 use Rattle.line.proofs.is_area.Goals as goal
-
 
 -- by the two tests
 by_tests : (len lines n : ℕ) → 0 < lines → (q r : Bool) → eqb (len / lines) n ≡ q → eqb (len % lines) 0 ≡ r → q && r ≡ eqb len (lines * n)

@@ -1,6 +1,5 @@
 -- `average` meets its contract. Assumes nothing.
 use mathlib.Core.Path.{ap, ◌∙◌}
-use borrow.Author.Rules.{rules}
 use Rattle.list.specs.Lists as Lists
 use Rattle.list.specs.Lists.{halved}
 use Rattle.list.proofs.Shifts.{sided_below, sided_found}

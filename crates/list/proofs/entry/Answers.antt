@@ -1,6 +1,5 @@
 -- `entry` meets its contract: each return is one case of the definition. Assumes nothing.
 use mathlib.Core.Path.{sym, ◌∙◌}
-use borrow.Author.Rules.{rules}
 use Rattle.list.specs.Entries as Entries
 use Rattle.list.proofs.entry.Goals as goal
 

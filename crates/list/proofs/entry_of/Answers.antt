@@ -1,5 +1,4 @@
 -- `entry_of` meets its contract, field by field. Assumes nothing.
-use borrow.Author.Rules.{rules}
 use Rattle.list.proofs.entry_of.Goals as goal
 
 pub returns : goal.returns

@@ -1,9 +1,8 @@
 -- `judge_step` meets its contract: each return has the answers to the questions before it, from what was found in the arrays (proofs/Found.antt).
 -- Assumes nothing.
 use mathlib.Core.Path.{◌≡◌}
-use mathlib.Core.Bool.{true, false}
+use mathlib.Core.Bool.{true}
 use mathlib.Core.List.{[]}
-use borrow.Author.Rules.{rules}
 use Rattle.list.specs.declared.ChannelList.{ChannelList}
 use Rattle.list.specs.Tables.{all}
 use Rattle.list.specs.Lists.{lent, channels, range}
@@ -30,11 +29,9 @@ After-range_allowed = Lts.After-range_allowed tie.the-claims reads.Pre reads.Pos
 abbrev After-range_keeps_shifts : Type 0
 After-range_keeps_shifts = Lts.After-range_keeps_shifts tie.the-claims reads.Pre reads.Post
 
-
 -- the list that the arrays hold
 abbrev here : After-range_allowed → ChannelList
 here c = let a = c.before.args in lent a.count a.widths.now a.heights.now a.hshifts.now a.vshifts.now []
-
 
 -- what each question's "yes" says, past it
 range-yes : (c : goal.Else-not-range_allowed) → range_allowed c.args.step (channels (here c.before)) ≡ true
@@ -88,7 +85,6 @@ returns-then-after-gt-MAX_CHANNELS c =
     let k = p in
     let e = k in
     rw (range-yes e.before.before.before.before.before.before.before.before.before, kinds-yes k.before.before.before.before.before.before.before, place-yes p.before.before.before.before.before, sides-yes h.before.before.before, room_none e.args.step (here e.before.before.before.before.before.before.before.before.before.before) (range-yes e.before.before.before.before.before.before.before.before.before) m.meant.result m.meant.ensures c.if-after-gt-MAX_CHANNELS.true)
-
 
 -- question 11, where there is room for the channels
 room_is : (c : After-range_keeps_shifts) → let e = c in

@@ -1,6 +1,5 @@
 -- `keeps_shifts` meets its contract: it asks question 11 as `kept_found` of proofs/Shifts.antt has it. Assumes nothing.
 use mathlib.Core.Path.{sym}
-use borrow.Author.Rules.{rules}
 use Rattle.list.proofs.Shifts.{kept_found}
 use Rattle.list.proofs.keeps_shifts.Goals as goal
 

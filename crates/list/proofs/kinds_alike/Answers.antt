@@ -1,7 +1,6 @@
 -- `kinds_alike` meets its contract. Assumes nothing.
 use mathlib.Core.Path.{◌≡◌, refl}
 use mathlib.Core.Bool.{Bool, true, false, beq}
-use borrow.Author.Rules.{rules}
 use Rattle.list.specs.Questions.{alike}
 use Rattle.list.proofs.kinds_alike.Goals as goal
 

@@ -1,9 +1,8 @@
 -- `next_list` meets its contract: up to k the arrays hold the channels of the list that the step leaves and their origins, and zeros after them.
 -- Assumes nothing.
 use mathlib.Core.Path.{◌≡◌, ap, ◌∙◌}
-use Prim.Native.Nat.{ℕ, ◌+◌, ◌-◌, ◌≤◌}
+use Prim.Native.Nat.{ℕ, ◌+◌}
 use native.Mathlib.Omega.{arith}
-use borrow.Author.Rules.{rules}
 use lib.ListN.{get_or}
 use Rattle.list.specs.Lists as Lists
 use Rattle.list.specs.declared.ChannelList.{ChannelList}
@@ -11,7 +10,7 @@ use Rattle.list.specs.Lists.{max_channels, lent, channels, stepped_origins}
 use Rattle.list.proofs.Channels.{channels_length, origins_length}
 use Rattle.list.proofs.Entries.{stepped_length, origins_stepped}
 use Rattle.list.proofs.Made.{Made, made_of, origin_of}
-use Rattle.list.proofs.Filled.{Filling, filling_none, filling_stored, filling_all}
+use Rattle.list.proofs.Filled.{filling_none, filling_stored, filling_all}
 use Rattle.list.proofs.next_list.Goals as goal
 use Rattle.list.proofs.next_list.Lts as Lts
 use Rattle.list.proofs.next_list.Reads as reads
@@ -26,7 +25,6 @@ Start = Lts.Start tie.the-claims reads.Pre reads.Post goal.the-invariant-loop-k 
 abbrev After-entry_of-from : Type 0
 After-entry_of-from = Lts.After-entry_of tie.the-claims reads.Pre reads.Post goal.the-invariant-loop-k goal.the-decreases-loop-k
 
-
 -- the list that the arrays hold
 abbrev here : Start → ChannelList
 here s = let a = s.args in lent a.count a.widths.now a.heights.now a.hshifts.now a.vshifts.now a.origins.now
@@ -34,16 +32,13 @@ here s = let a = s.args in lent a.count a.widths.now a.heights.now a.hshifts.now
 pub loop-k-init : goal.loop-k-init
 loop-k-init c = let s = c in (omega (arith, s.requires.room, channels_length (here s.before.before.before)), omega arith, filling_none _ _)
 
-
 -- the turn of the loop in which a channel was found
 abbrev turn : After-entry_of-from → In-loop-k
 turn c = c.before.before
 
-
 -- the channel was found before its origin
 abbrev found : goal.After-byte_at-origin → After-entry_of-from
 found c = c.before.before
-
 
 -- where the function starts
 abbrev start : After-entry_of-from → Start
@@ -61,7 +56,6 @@ made c =
     let j = c.source-j in
     made_of s.args.step (here s) s.requires r.result r.ensures q.loop-k.k _ t.loop-k-test.true (ap (λ m. m + s.args.step.number) n.meant.ensures)
     j.result j.ensures c.entry_of-from.result c.entry_of-from.ensures
-
 
 -- and the origin o that was found there
 origin : (c : After-entry_of-from) (o : ℕ) → o ≡ get_or (here (start c)).origins c.source-j.result 0

@@ -1,17 +1,9 @@
 -- `next_list` meets its contract: up to k the arrays hold the channels of the list that the step leaves and their origins, and zeros after them.
 -- Assumes nothing.
-use mathlib.Core.Path.{◌≡◌, ap, ◌∙◌}
-use Prim.Native.Nat.{ℕ, ◌+◌, ◌-◌, ◌≤◌}
-use native.Mathlib.Omega.{arith}
-use borrow.Author.Rules.{rules}
-use lib.ListN.{get_or}
+use Prim.Native.Nat.{◌-◌, ◌≤◌}
 use Rattle.list.specs.Lists as Lists
-use Rattle.list.specs.declared.ChannelList.{ChannelList}
 use Rattle.list.specs.Lists.{max_channels, lent, channels, stepped_origins}
-use Rattle.list.proofs.Channels.{channels_length, origins_length}
-use Rattle.list.proofs.Entries.{stepped_length, origins_stepped}
-use Rattle.list.proofs.Made.{Made, made_of, origin_of}
-use Rattle.list.proofs.Filled.{Filling, filling_none, filling_stored, filling_all}
+use Rattle.list.proofs.Filled.{Filling}
 use Rattle.list.proofs.next_list.Given as goal
 
 abbrev pub invariant-loop-k : goal.invariant-loop-k

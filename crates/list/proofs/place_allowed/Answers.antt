@@ -1,5 +1,4 @@
 -- `place_allowed` meets its contract. Assumes nothing.
-use borrow.Author.Rules.{rules}
 use Rattle.list.proofs.place_allowed.Goals as goal
 
 pub returns : goal.returns

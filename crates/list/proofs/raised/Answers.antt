@@ -1,7 +1,6 @@
 -- `raised` meets its contract: a meta channel stays, and another's shift has room for one more. Assumes nothing.
 use mathlib.Core.Path.{sym, ◌∙◌}
 use native.Mathlib.Omega.{arith}
-use borrow.Author.Rules.{rules}
 use Rattle.list.specs.Lists as Lists
 use Rattle.list.proofs.Shifts.{raised_meta}
 use Rattle.list.proofs.raised.Goals as goal

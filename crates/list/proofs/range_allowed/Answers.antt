@@ -1,5 +1,4 @@
 -- `range_allowed` meets its contract. Assumes nothing.
-use borrow.Author.Rules.{rules}
 use Rattle.list.proofs.range_allowed.Goals as goal
 
 pub returns : goal.returns

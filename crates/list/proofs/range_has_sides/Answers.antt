@@ -2,8 +2,6 @@
 use mathlib.Core.Path.{◌≡◌, refl, ap, ◌∙◌}
 use Prim.Native.Nat.{ℕ, ◌+◌, ◌-◌}
 use native.Mathlib.Omega.{arith}
-use borrow.Author.Rules.{rules}
-use borrow.Author.Tests.{not-true, not-false}
 use Rattle.list.specs.Tables.{table, all}
 use Rattle.list.specs.Lists.{entry_of}
 use Rattle.list.specs.Questions.{has_sides}
@@ -12,7 +10,6 @@ use Rattle.list.proofs.range_has_sides.Goals as goal
 
 pub loop-k-init : goal.loop-k-init
 loop-k-init c = refl
-
 
 -- as many as the step's number
 whole : (b n : ℕ) → b + n - b ≡ n

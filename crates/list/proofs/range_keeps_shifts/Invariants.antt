@@ -1,13 +1,9 @@
 -- `range_keeps_shifts` meets its contract: what is left of the range answers for the whole. Assumes nothing.
-use mathlib.Core.Path.{◌≡◌, refl, ap, ◌∙◌}
-use Prim.Native.Nat.{ℕ, ◌+◌, ◌-◌}
-use native.Mathlib.Omega.{arith}
-use borrow.Author.Rules.{rules}
-use borrow.Author.Tests.{not-true, not-false}
+use mathlib.Core.Path.{◌≡◌}
+use Prim.Native.Nat.{◌-◌}
 use Rattle.list.specs.Tables.{table, all}
 use Rattle.list.specs.Lists.{entry_of}
 use Rattle.list.specs.Questions.{shifts_kept}
-use Rattle.list.proofs.Tables.{table_none, all_stop, all_next}
 use Rattle.list.proofs.range_keeps_shifts.Given as goal
 
 abbrev pub invariant-loop-k : goal.invariant-loop-k

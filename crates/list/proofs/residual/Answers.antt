@@ -1,7 +1,6 @@
 -- `residual` meets its contract. Assumes nothing.
 use mathlib.Core.Path.{◌≡◌, ap, ◌∙◌}
 use Prim.Native.Nat.{◌-◌}
-use borrow.Author.Rules.{rules}
 use Rattle.list.specs.Lists as Lists
 use Rattle.list.specs.Lists.{rest}
 use Rattle.list.proofs.Shifts.{sided_below, sided_found}

@@ -1,5 +1,4 @@
 -- `residuals_at` meets its contract, by the two places. Assumes nothing.
-use borrow.Author.Rules.{rules}
 use Rattle.list.proofs.residuals_at.Goals as goal
 
 pub returns-then-step : goal.returns-then-step

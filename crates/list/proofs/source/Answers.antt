@@ -1,5 +1,4 @@
 -- `source` meets its contract: each return is one case of the definition. Assumes nothing.
-use borrow.Author.Rules.{rules}
 use borrow.Author.Tests.{lt-ltb, le-ltb}
 use Rattle.list.specs.Entries as Entries
 use Rattle.list.proofs.source.Goals as goal

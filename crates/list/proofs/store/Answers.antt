@@ -1,5 +1,4 @@
 -- `store` meets its contract: an index below 256 is set, and past it the arrays stay. Assumes nothing.
-use borrow.Author.Rules.{rules}
 use borrow.Author.Tests.{lt-ltb, le-ltb}
 use Rattle.list.specs.Lists as Lists
 use Rattle.list.specs.Lists.{max_channels}

@@ -1,6 +1,5 @@
 -- `residual_lane` meets its contract, call by call. Assumes nothing.
 use mathlib.Core.Path.{◌∙◌}
-use borrow.Author.Rules.{rules}
 use mir.Facts.{to_z-of_z}
 use Rattle.arith32.proofs.Whole.{back32}
 use Rattle.pair.specs.Pair.{residual_of}

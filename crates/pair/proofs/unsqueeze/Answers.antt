@@ -1,5 +1,4 @@
 -- `unsqueeze` meets its contract, call by call. Assumes nothing.
-use borrow.Author.Rules.{rules}
 use mir.Facts.{to_z-of_z}
 use Rattle.arith32.proofs.Whole.{back32}
 use Rattle.pair.specs.Pair.{difference, first, second}

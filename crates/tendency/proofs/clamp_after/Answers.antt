@@ -1,6 +1,5 @@
 -- `clamp_after` meets its contract: what its calls give, then one return for each side of the test. Assumes nothing.
 use mathlib.Core.Path.{◌≡◌, ◌∙◌}
-use borrow.Author.Rules.{rules}
 use mir.Facts.{to_z-of_z}
 use Rattle.arith32.proofs.Whole.{back32}
 use Rattle.arith32.specs.Arith.{◌⊕◌, lowest_bit}
@@ -12,7 +11,6 @@ use Rattle.tendency.proofs.clamp_after.Tie as tie
 
 abbrev After-wrapping_add : Type 0
 After-wrapping_add = Lts.After-wrapping_add2 tie.the-claims reads.Pre reads.Post
-
 
 -- the calls before the test: twice q, and v rounded up to an even number
 module _ (c : After-wrapping_add) where

@@ -1,7 +1,6 @@
 -- `clamp_before` meets its contract: what its calls give, then one return for each side of the test, which says what the definition's does
 -- (`same_clamp`). Assumes nothing.
 use mathlib.Core.Path.{◌≡◌, ◌∙◌}
-use borrow.Author.Rules.{rules}
 use lib.IntN.{pos}
 use mir.Facts.{to_z-of_z}
 use Rattle.arith32.proofs.Whole.{back32}
@@ -15,7 +14,6 @@ use Rattle.tendency.proofs.clamp_before.Tie as tie
 
 abbrev After-wrapping_sub : Type 0
 After-wrapping_sub = Lts.After-wrapping_sub tie.the-claims reads.Pre reads.Post
-
 
 -- the calls before the test: twice p, the clamped value, and v rounded down to an even number
 module _ (c : After-wrapping_sub) where

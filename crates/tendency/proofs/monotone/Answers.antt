@@ -1,6 +1,5 @@
 -- `monotone` meets its contract, call by call in the order of the code. Assumes nothing.
 use mathlib.Core.Path.{◌∙◌}
-use borrow.Author.Rules.{rules}
 use mir.Facts.{to_z-of_z}
 use Rattle.arith32.proofs.Whole.{back32}
 use Rattle.tendency.specs.Tendency.{monotone}

@@ -1,6 +1,5 @@
 -- `negated_if` meets its contract, one return for each sign. Assumes nothing.
 use mathlib.Core.Path.{◌∙◌}
-use borrow.Author.Rules.{rules}
 use mir.Facts.{to_z-of_z}
 use Rattle.arith32.proofs.Whole.{back32}
 use Rattle.tendency.specs.Tendency.{negated_if}

@@ -1,6 +1,5 @@
 -- `smooth_tendency` meets its contract: 0 on a turn, else `monotone` of the three differences. Assumes nothing.
 use mathlib.Core.Path.{◌≡◌, ◌∙◌}
-use borrow.Author.Rules.{rules}
 use mir.Facts.{to_z-of_z}
 use Rattle.arith32.specs.Arith.{◌⊖◌}
 use Rattle.arith32.proofs.Whole.{back32}
@@ -12,7 +11,6 @@ use Rattle.tendency.proofs.smooth_tendency.Tie as tie
 
 abbrev After-turns : Type 0
 After-turns = Lts.After-turns tie.the-claims reads.Pre reads.Post
-
 
 -- the differences that both returns-then-turns start from, and what `turns` says of them
 module _ (c : After-turns) where

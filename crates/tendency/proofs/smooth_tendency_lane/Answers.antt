@@ -1,6 +1,5 @@
 -- `smooth_tendency_lane` meets its contract: the same definition, with the turn selected after `monotone` is computed. Assumes nothing.
 use mathlib.Core.Path.{◌≡◌, ◌∙◌}
-use borrow.Author.Rules.{rules}
 use mir.Facts.{to_z-of_z}
 use Rattle.arith32.specs.Arith.{◌⊖◌}
 use Rattle.arith32.proofs.Whole.{back32}
@@ -12,7 +11,6 @@ use Rattle.tendency.proofs.smooth_tendency_lane.Tie as tie
 
 abbrev After-opposite : Type 0
 After-opposite = Lts.After-opposite tie.the-claims reads.Pre reads.Post
-
 
 -- what the calls before the test give: the tendency without a turn, and whether there is one
 both : (c : After-opposite) → let g = c.before.before.before.before.before.args in

@@ -1,6 +1,5 @@
 -- `has_sides_allowed` meets its contract, by computation. Assumes nothing.
 use mathlib.Core.Path.{refl}
-use borrow.Author.Rules.{rules}
 use Rattle.channel.specs.Channel.{sides_fit}
 use Rattle.channel.proofs.Channel.has_sides_allowed.Goals as goal
 

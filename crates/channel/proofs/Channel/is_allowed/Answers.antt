@@ -1,5 +1,4 @@
 -- `is_allowed` meets its contract: both answers together. Assumes nothing.
-use borrow.Author.Rules.{rules}
 use Rattle.channel.specs.Channel.{is_allowed}
 use Rattle.channel.proofs.Channel.is_allowed.Goals as goal
 

@@ -1,5 +1,4 @@
 -- `channel` meets its contract: it is the arrays' entry. Assumes nothing.
-use borrow.Author.Rules.{rules}
 use Rattle.list.proofs.ChannelList.channel.Goals as goal
 
 pub returns : goal.returns

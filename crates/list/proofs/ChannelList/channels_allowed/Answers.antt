@@ -1,12 +1,9 @@
 -- `channels_allowed` meets its contract: what is left of the list may follow the channel before it if and only if the whole list is allowed.
 -- Assumes nothing.
-use mathlib.Core.Path.{◌≡◌, sym, ap, ◌∙◌}
+use mathlib.Core.Path.{sym, ap, ◌∙◌}
 use mathlib.Core.Bool.{false}
-use Prim.Native.Nat.{◌-◌, ◌≤◌}
 use native.Mathlib.Omega.{arith}
-use borrow.Author.Rules.{rules}
-use Rattle.list.specs.Tables.{table}
-use Rattle.list.specs.Lists.{channel_at, channels}
+use Rattle.list.specs.Lists.{channel_at}
 use Rattle.list.specs.Questions.{channels_allowed}
 use Rattle.list.proofs.Tables.{table_none}
 use Rattle.list.proofs.Channels.{channels_all}
@@ -25,7 +22,6 @@ In-loop-k = Lts.In-loop tie.the-claims reads.Pre reads.Post goal.the-invariant-l
 pub loop-k-init : goal.loop-k-init
 unfolding channels_allowed
 loop-k-init c = (omega arith, ap (allowed_after false) (channels_all _ c.len-count.result c.len-count.ensures))
-
 
 -- the turn of the loop in which a channel was found
 abbrev turn : After-entry_of-c → In-loop-k

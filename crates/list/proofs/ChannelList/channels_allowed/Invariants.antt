@@ -1,16 +1,11 @@
 -- `channels_allowed` meets its contract: what is left of the list may follow the channel before it if and only if the whole list is allowed.
 -- Assumes nothing.
-use mathlib.Core.Path.{◌≡◌, sym, ap, ◌∙◌}
-use mathlib.Core.Bool.{false}
+use mathlib.Core.Path.{◌≡◌}
 use Prim.Native.Nat.{◌-◌, ◌≤◌}
-use native.Mathlib.Omega.{arith}
-use borrow.Author.Rules.{rules}
 use Rattle.list.specs.Tables.{table}
 use Rattle.list.specs.Lists.{channel_at, channels}
 use Rattle.list.specs.Questions.{channels_allowed}
-use Rattle.list.proofs.Tables.{table_none}
-use Rattle.list.proofs.Channels.{channels_all}
-use Rattle.list.proofs.MetaFirst.{allowed_after, allowed_end, allowed_stop, allowed_next}
+use Rattle.list.proofs.MetaFirst.{allowed_after}
 use Rattle.list.proofs.ChannelList.channels_allowed.Given as goal
 
 abbrev pub invariant-loop-k : goal.invariant-loop-k

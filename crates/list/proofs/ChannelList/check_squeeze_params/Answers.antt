@@ -1,6 +1,5 @@
 -- `check_squeeze_params` meets its contract: the answer is the list's, then the step's (proofs/Taken.antt). Assumes nothing.
 use mathlib.Core.Path.{sym, ap, ◌∙◌}
-use borrow.Author.Rules.{rules}
 use Rattle.list.specs.Questions.{judge_step}
 use Rattle.list.proofs.Channels.{channels_lent}
 use Rattle.list.proofs.Taken.{list_answer_lem, step_answer_lem}

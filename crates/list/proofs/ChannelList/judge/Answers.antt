@@ -1,6 +1,4 @@
 -- `judge` meets its contract: each return has the answers to the questions before it. Assumes nothing.
-use borrow.Author.Rules.{rules}
-use borrow.Author.Tests.{not-true, not-false}
 use Rattle.list.specs.Questions.{count_allowed, judge_list}
 use Rattle.list.proofs.Asking.{no, yes}
 use Rattle.list.proofs.Totals.{counted_over, counted_within}

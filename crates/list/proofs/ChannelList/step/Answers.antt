@@ -1,6 +1,5 @@
 -- `step` meets its contract: the list's refusal, or what the step alone comes to (proofs/Taken.antt). Assumes nothing.
 use mathlib.Core.Path.{sym, ◌∙◌}
-use borrow.Author.Rules.{rules}
 use Rattle.list.proofs.Taken.{list_refused, list_passed}
 use Rattle.list.proofs.ChannelList.step.Goals as goal
 

@@ -1,6 +1,5 @@
 -- `step_on` meets its contract: no refusal lets the step be taken (proofs/Taken.antt). Assumes nothing.
 use mathlib.Core.Path.{◌≡◌, sym, ap, ◌∙◌}
-use borrow.Author.Rules.{rules}
 use Rattle.list.specs.Lists.{channels}
 use Rattle.list.specs.Questions.{judge_step}
 use Rattle.list.proofs.Channels.{channels_lent}
@@ -16,7 +15,6 @@ After-judge_step-answer = Lts.After-judge_step tie.the-claims reads.Pre reads.Po
 
 abbrev Start : Type 0
 Start = Lts.Start tie.the-claims reads.Pre reads.Post
-
 
 -- where the function starts, and the answer for its list
 abbrev start : After-judge_step-answer → Start

@@ -1,10 +1,8 @@
 -- `total` meets its contract: the sum so far and the samples of what is left are those of the list; where the next channel takes it past the limit,
 -- so do all together. Assumes nothing.
 use mathlib.Core.Path.{◌≡◌, ◌∙◌}
-use Prim.Native.Nat.{◌+◌, ◌-◌, ◌≤◌}
+use Prim.Native.Nat.{◌+◌, ◌-◌}
 use native.Mathlib.Omega.{arith}
-use borrow.Author.Rules.{rules}
-use Rattle.numbers.specs.Numbers.{max_samples}
 use Rattle.list.specs.Tables.{table}
 use Rattle.list.specs.Lists as Lists
 use Rattle.list.specs.Questions.{counted_total}
@@ -25,11 +23,9 @@ In-loop-k = Lts.In-loop tie.the-claims reads.Pre reads.Post goal.the-invariant-l
 pub loop-k-init : goal.loop-k-init
 loop-k-init c = (omega arith, omega arith, rw (channels_all c.args.self c.len-count.result c.len-count.ensures) (omega arith))
 
-
 -- the turn of the loop in which a channel's samples were found
 abbrev turn : After-samples-more → In-loop-k
 turn c = c.before.before.before.before.before.before
-
 
 -- the sum with them, and what is left after them
 next : (c : After-samples-more) → let q = (turn c) in

@@ -1,16 +1,10 @@
 -- `total` meets its contract: the sum so far and the samples of what is left are those of the list; where the next channel takes it past the limit,
 -- so do all together. Assumes nothing.
-use mathlib.Core.Path.{◌≡◌, ◌∙◌}
+use mathlib.Core.Path.{◌≡◌}
 use Prim.Native.Nat.{◌+◌, ◌-◌, ◌≤◌}
-use native.Mathlib.Omega.{arith}
-use borrow.Author.Rules.{rules}
 use Rattle.numbers.specs.Numbers.{max_samples}
 use Rattle.list.specs.Tables.{table}
 use Rattle.list.specs.Lists as Lists
-use Rattle.list.specs.Questions.{counted_total}
-use Rattle.list.proofs.Tables.{table_none}
-use Rattle.list.proofs.Channels.{channels_all}
-use Rattle.list.proofs.Totals.{total_next}
 use Rattle.list.proofs.ChannelList.total.Given as goal
 
 abbrev pub invariant-loop-k : goal.invariant-loop-k
