@@ -77,7 +77,8 @@ module _ (s : List ℤ) (at stride : ℕ) (a b c d : List ℤ) where
         let p : at + 3 + n * stride ≡ o + 3 = omega arith in
         rw e (sym (ap (λ (t : List ℤ). set (with_some t (at + 3) stride d n) (at + 3 + n * stride) (get_or d n (pos 0))) three_more ∙ rw (
           p,
-          some_past (set (set (three n) o (get_or a n (pos 0))) (o + 1) (get_or b n (pos 0))) (at + 3) stride d n (o + 2) (get_or c n (pos 0)) (off 2 3 (omega arith) (omega arith)),
+          some_past (set (set (three n) o (get_or a n (pos 0))) (o + 1) (get_or b n (pos 0))) (at + 3) stride d n (o + 2) (get_or c n (pos 0))
+              (off 2 3 (omega arith) (omega arith)),
           some_past (set (three n) o (get_or a n (pos 0))) (at + 3) stride d n (o + 1) (get_or b n (pos 0)) (off 1 3 (omega arith) (omega arith)),
           some_past (three n) (at + 3) stride d n o (get_or a n (pos 0)) (off_first 3 (omega arith)),
         )))

@@ -27,18 +27,15 @@ inside c =
 -- f of a turn's eight columns
 abbrev columns : (ℤ → ℤ → ℤ → ℤ → ℤ) → (c : After-unsqueeze_block-pairs) → List ℤ
 columns f c =
-    let head = c in
-    let a = head.args in
-    eight f a.avg.now a.res.now a.next.now head.loop-x.out a.from head.loop-x.x
+    let a = c.args in
+    eight f a.avg.now a.res.now a.next.now c.loop-x.out a.from c.loop-x.x
 
 columns-long : (f : ℤ → ℤ → ℤ → ℤ → ℤ) (c : After-unsqueeze_block-pairs) → length (columns f c) ≡ 8
 columns-long f c =
-    let turn = c in
-    let head = turn in
-    let a = head.args in
-    let i = inside turn.before.before.before.before.before in
-    let l = head.loop-x.invariant.2.long in
-    eight_length f a.avg.now a.res.now a.next.now head.loop-x.out a.from head.loop-x.x
+    let a = c.args in
+    let i = inside c.before.before.before.before.before in
+    let l = c.loop-x.invariant.2.long in
+    eight_length f a.avg.now a.res.now a.next.now c.loop-x.out a.from c.loop-x.x
     (omega arith) (omega arith) (omega arith) (omega arith)
 
 -- the two blocks of a turn
@@ -61,39 +58,31 @@ pub load-requires-in-loop-x-3 : goal.load-requires-in-loop-x-3
 load-requires-in-loop-x-3 c = omega (arith, inside c.before.before.before, c.loop-x.invariant.2.long)
 
 pub slice_bounds-copy_row-end : goal.slice_bounds-copy_row-end
-slice_bounds-copy_row-end c = let block = c in rw (made block.before.before.before) (sym (columns-long first block.before.before.before))
+slice_bounds-copy_row-end c = rw (made c.before.before.before) (sym (columns-long first c.before.before.before))
 
 pub copy_row-requires : goal.copy_row-requires
 copy_row-requires c =
-    let block = c in
-    let head = block in
-    let n = columns-long first block.before.before.before.before in
-    rw (made block.before.before.before.before) (omega (arith, head.loop-x.invariant.2.long, head.requires.2.inside))
+    let n = columns-long first c.before.before.before.before in
+    rw (made c.before.before.before.before) (omega (arith, c.loop-x.invariant.2.long, c.requires.2.inside))
 
 pub slice_bounds-copy_row-end-in-loop-x : goal.slice_bounds-copy_row-end-in-loop-x
 slice_bounds-copy_row-end-in-loop-x c =
-    let block = c in
-    rw (made block.before.before.before.before.before.before.before) (sym (columns-long second block.before.before.before.before.before.before.before))
+    rw (made c.before.before.before.before.before.before.before) (sym (columns-long second c.before.before.before.before.before.before.before))
 
 pub copy_row-requires-in-loop-x : goal.copy_row-requires-in-loop-x
 copy_row-requires-in-loop-x c =
-    let block = c in
-    let head = block in
-    let n = columns-long second block.before.before.before.before.before.before.before.before in
-    rw (made block.before.before.before.before.before.before.before.before) (omega (arith, head.loop-x.invariant.2.long, head.requires.2.inside, c.copy_row.auto.out))
+    let n = columns-long second c.before.before.before.before.before.before.before.before in
+    rw (made c.before.before.before.before.before.before.before.before) (omega (arith, c.loop-x.invariant.2.long, c.requires.2.inside, c.copy_row.auto.out))
 
 pub loop-x-preserved : goal.loop-x-preserved
 loop-x-preserved c =
-    let block = c in
-    let turn = block in
-    let head = turn in
-    let p = head.requires.2 in
-    let l = head.loop-x.invariant.2.long in
-    let stored = rw (c.copy_row.ensures, made block.before.before.before.before.before.before.before.before.before.before) at c.copy_row-in-loop-x.ensures in (
+    let p = c.requires.2 in
+    let l = c.loop-x.invariant.2.long in
+    let stored = rw (c.copy_row.ensures, made c.before.before.before.before.before.before.before.before.before.before) at c.copy_row-in-loop-x.ensures in (
       refl,
       omega arith,
-      columns_join p (omega arith) (omega arith) (omega arith) head.loop-x.invariant.2
-          (columns_eight head.loop-x.out _ head.loop-x.x (omega arith) head.requires.0 head.requires.1 (rw l p) stored),
+      columns_join p (omega arith) (omega arith) (omega arith) c.loop-x.invariant.2
+          (columns_eight c.loop-x.out _ c.loop-x.x (omega arith) c.requires.0 c.requires.1 (rw l p) stored),
     )
 
 pub shape_of-out : goal.shape_of-out

@@ -38,14 +38,12 @@ bounds-out-to-in-loop-x c = simp length-set (search rules)
 
 pub loop-x-preserved : goal.loop-x-preserved
 loop-x-preserved c =
-    let turn = c in
-    let head = turn in
-    let a = head.args in
-    let x = head.loop-x.x in
-    let s = head.loop-x.out in
-    let p = head.requires.3 in
+    let a = c.args in
+    let x = c.loop-x.x in
+    let s = c.loop-x.out in
+    let p = c.requires.3 in
     let i = p.inside in
-    let l = head.loop-x.invariant.3.long in
+    let l = c.loop-x.invariant.3.long in
     let pair = c.unsqueeze-p in
     let b1 = back32 (get_or a.avg.now x (pos 0)) c.unsqueeze-arg-1.given in
     let b2 = back32 (get_or a.res.now x (pos 0)) c.unsqueeze-arg-in-loop-x-1.given in
@@ -56,8 +54,8 @@ loop-x-preserved c =
       refl,
       omega arith,
       omega arith,
-      columns_join p head.loop-x.invariant.1 (omega arith) (omega arith) head.loop-x.invariant.3
-          (columns_one s x _ _ turn.loop-x-test.true (omega arith) e1 e2),
+      columns_join p c.loop-x.invariant.1 (omega arith) (omega arith) c.loop-x.invariant.3
+          (columns_one s x _ _ c.loop-x-test.true (omega arith) e1 e2),
     )
 
 pub shape_of-out : goal.shape_of-out
@@ -65,6 +63,5 @@ shape_of-out c = c.loop-x.invariant.3.long
 
 pub returns : goal.returns
 returns c =
-    let head = c in
-    let e : head.loop-x.x ≡ length head.args.avg.now = omega arith in
-    rw e at head.loop-x.invariant.3
+    let e : c.loop-x.x ≡ length c.args.avg.now = omega arith in
+    rw e at c.loop-x.invariant.3

@@ -7,6 +7,5 @@ use Rattle.columns.proofs.copy_row.Goals as goal
 
 pub returns : goal.returns
 returns c =
-    let s = c in
-    let a = s.args in
-    part_copied a.out.now a.to a.row.now s.requires (a.to + length a.row.now - a.to) _ (omega arith) c.copy.ensures
+    let a = c.args in
+    part_copied a.out.now a.to a.row.now c.requires (a.to + length a.row.now - a.to) _ (omega arith) c.copy.ensures

@@ -1,7 +1,7 @@
 -- `last_rows` meets its contract: the last pair of rows, and a row of tails after it, are the end of the lines (proofs/LastRows.antt).
 -- Assumes nothing.
 use mathlib.Core.Path.{◌≡◌, ◌∙◌}
-use Prim.Native.Nat.{◌+◌, ◌-◌, ◌≤◌}
+use Prim.Native.Nat.{ℕ, ◌+◌, ◌-◌, ◌<◌, ◌≤◌}
 use native.Mathlib.Omega.{arith}
 use lib.ListN.{length, take, drop}
 use Rattle.columns.specs.Rows.{row_after, Columns}
@@ -15,21 +15,16 @@ use Rattle.columns.proofs.last_rows.Tie as tie
 abbrev After-out-1 : Type 0
 After-out-1 = Lts.After-out tie.the-claims reads.Pre reads.Post
 
--- the last pair's averages and residuals lie inside
-rooms : (c : goal.Start) → let a = c.args in (a.w ≤ length a.res.now) × (length a.res.now ≤ length a.avg.now)
-rooms c = (last_row_inside c.requires.0 c.requires.1, residuals_inside c.requires.0)
+-- the last pair's rows end where the residuals end
+placed : (n w : ℕ) → w ≤ n → n - w + w ≡ n
+placed n w l = omega arith
 
--- they end where the residuals end
-placed : (c : goal.Start) → let a = c.args in length a.res.now - a.w + a.w ≡ length a.res.now
-placed c = let r = (rooms c).0 in omega arith
-
-counted : (c : goal.Start) → c.args.n - 1 + 1 ≡ c.args.n
-counted c = let p = c.requires.1 in omega arith
+counted : (n : ℕ) → 0 < n → n - 1 + 1 ≡ n
+counted n l = omega arith
 
 -- what the last pair of rows is made of
 made : (c : After-out-1)
-    → let s = c in
-    let a = s.args in
+    → let a = c.args in
     let x = length a.res.now - a.w in
     let row = take a.w (drop x a.avg.now) in
     Columns row (take a.w (drop x a.res.now)) (row_after a.avg.now a.next.now x a.w)
@@ -41,55 +36,52 @@ made c =
     rw (z, c.row_after.ensures) at c.row_pair.ensures
 
 pub overflow_sub-a : goal.overflow_sub-a
-overflow_sub-a c = (rooms c).0
+overflow_sub-a c = last_row_inside c.requires.0 c.requires.1
 
 pub slice_bounds-row_pair-end : goal.slice_bounds-row_pair-end
-slice_bounds-row_pair-end c = omega (arith, (rooms c).0, (rooms c).1)
+slice_bounds-row_pair-end c = omega (arith, last_row_inside c.requires.0 c.requires.1, residuals_inside c.requires.0)
 
 pub slice_bounds-row_pair-end-2 : goal.slice_bounds-row_pair-end-2
-slice_bounds-row_pair-end-2 c = omega (arith, (rooms c.before).0)
+slice_bounds-row_pair-end-2 c = omega (arith, last_row_inside c.requires.0 c.requires.1)
 
 pub row_after-requires : goal.row_after-requires
 row_after-requires c =
-    let s = c in
-    let a = s.args in
-    let r = rooms s.before.before in
+    let a = c.args in
+    let r = last_row_inside c.requires.0 c.requires.1 in
     let x = length a.res.now - a.w in
-    (omega (arith, r.0, r.1), after_room s.requires.0 x (placed s.before.before), s.requires.0.next_length)
+    (omega (arith, r, residuals_inside c.requires.0), after_room c.requires.0 x (placed (length a.res.now) a.w r), c.requires.0.next_length)
 
 pub row_pair-requires : goal.row_pair-requires
 row_pair-requires c =
-    let s = c in
-    let a = s.args in
+    let a = c.args in
+    let p = placed (length a.res.now) a.w (last_row_inside c.requires.0 c.requires.1) in
     let x = length a.res.now - a.w in
     let z : x + a.w - x ≡ a.w = omega arith in
-    rw (z, c.row_after.ensures) (last_asked s.requires.0 (a.n - 1) x (counted s.before.before.before.before) (placed s.before.before.before.before) s.requires.3)
+    rw (z, c.row_after.ensures)
+    (last_asked c.requires.0 (a.n - 1) x (counted a.n c.requires.1) p c.requires.3)
 
 pub slice_bounds-copy_row-count : goal.slice_bounds-copy_row-count
-slice_bounds-copy_row-count c = omega (arith, (rooms c.before.before.before.before.before.before.before).1)
+slice_bounds-copy_row-count c = omega (arith, residuals_inside c.requires.0)
 
 pub slice_bounds-copy_row-start : goal.slice_bounds-copy_row-start
-slice_bounds-copy_row-start c = omega (arith, (rooms c.before.before.before.before.before.before.before).1)
+slice_bounds-copy_row-start c = omega (arith, residuals_inside c.requires.0)
 
 pub copy_row-requires : goal.copy_row-requires
 copy_row-requires c =
-    let then = c in
-    let s = then in
-    let a = s.args in
-    rw (part_rest a.avg.now (length a.res.now)) (tail_room s.requires.0 then.if-n-m.true ((made then.before.before.before).long ∙ s.requires.2))
+    let a = c.args in
+    rw (part_rest a.avg.now (length a.res.now)) (tail_room c.requires.0 c.if-n-m.true ((made c.before.before.before).long ∙ c.requires.2))
 
 pub returns-then-n-m : goal.returns-then-n-m
 returns-then-n-m c prev =
-    let then = c in
-    let s = then in
-    let a = s.args in
-    let m = made then.before.before.before.before.before in
+    let a = c.args in
+    let p = placed (length a.res.now) a.w (last_row_inside c.requires.0 c.requires.1) in
+    let m = made c.before.before.before.before.before in
     let tail = rw (part_rest a.avg.now (length a.res.now)) at c.copy_row.ensures in
     rw tail
-    (ended_odd s.requires.0 (a.n - 1) (length a.res.now - a.w) (counted s.before.before.before.before.before.before.before.before.before.before.before) (placed s.before.before.before.before.before.before.before.before.before.before.before) m prev then.if-n-m.true (m.long ∙ s.requires.2))
+    (ended_odd c.requires.0 (a.n - 1) (length a.res.now - a.w) (counted a.n c.requires.1) p m prev c.if-n-m.true (m.long ∙ c.requires.2))
 
 pub returns-else-n-m : goal.returns-else-n-m
 returns-else-n-m c prev =
-    let s = c in
-    let a = s.args in
-    ended_even s.requires.0 (a.n - 1) (length a.res.now - a.w) (counted s.before.before.before.before.before.before.before) (placed s.before.before.before.before.before.before.before) (made c.before) prev c.if-n-m.false
+    let a = c.args in
+    let p = placed (length a.res.now) a.w (last_row_inside c.requires.0 c.requires.1) in
+    ended_even c.requires.0 (a.n - 1) (length a.res.now - a.w) (counted a.n c.requires.1) p (made c.before) prev c.if-n-m.false

@@ -9,8 +9,7 @@ use Rattle.columns.proofs.load.Goals as goal
 
 pub returns : goal.returns
 returns c =
-    let s = c in
-    let a = s.args in
+    let a = c.args in
     let z : a.at + 8 - a.at ≡ 8 = omega arith in
     let e = rw z at c.copy.ensures in
-    e ∙ copied_all (take 8 (drop a.at a.s.now)) _ (part_length a.s.now a.at 8 s.requires)
+    e ∙ copied_all (take 8 (drop a.at a.s.now)) _ (part_length a.s.now a.at 8 c.requires)

@@ -46,14 +46,12 @@ slice_bounds-row_pair-end-in-loop-2 c = omega (arith, (rooms c.before.before).0)
 
 pub row_pair-requires : goal.row_pair-requires
 row_pair-requires c =
-    let turn = c in
-    let head = turn in
-    let p = head.requires in
-    let a = head.loop.a in
-    let w = head.args.w in
+    let p = c.requires in
+    let a = c.loop.a in
+    let w = c.args.w in
     let y : a + w - a ≡ w = omega arith in
     let z : a + w + w - (a + w) ≡ w = omega arith in
-    rw (y, z, head.loop.invariant.done.long) (pair_asked head.loop.invariant turn.loop-test.true p.0 p.1 p.2)
+    rw (y, z, c.loop.invariant.done.long) (pair_asked c.loop.invariant c.loop-test.true p.0 p.1 p.2)
 
 pub overflow_add-from : goal.overflow_add-from
 overflow_add-from c = omega (arith, (rooms c.before.before.before.before.before.before).2)
@@ -63,20 +61,17 @@ overflow_add-to c = omega (arith, (rooms c.before.before.before.before.before.be
 
 pub loop-preserved : goal.loop-preserved
 loop-preserved c =
-    let turn = c in
-    let head = turn in
-    let a = head.loop.a in
-    let w = head.args.w in
+    let a = c.loop.a in
+    let w = c.args.w in
     let y : a + w - a ≡ w = omega arith in
     let z : a + w + w - (a + w) ≡ w = omega arith in
-    down_more head.loop.invariant turn.loop-test.true head.requires.0 (rw (y, z) at c.row_pair.ensures)
+    down_more c.loop.invariant c.loop-test.true c.requires.0 (rw (y, z) at c.row_pair.ensures)
 
 pub shape_of-out : goal.shape_of-out
 shape_of-out c = c.loop.invariant.done.long
 
 pub returns : goal.returns
 returns c =
-    let head = c in
-    let e : head.loop.counter ≡ head.args.count = omega (arith, head.loop.invariant.inside) in
-    let d = rw e at head.loop.invariant in
-    (d.done, down_apart d head.requires.2)
+    let e : c.loop.counter ≡ c.args.count = omega (arith, c.loop.invariant.inside) in
+    let d = rw e at c.loop.invariant in
+    (d.done, down_apart d c.requires.2)

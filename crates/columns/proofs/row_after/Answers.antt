@@ -18,13 +18,11 @@ returns-then-e-avg c =
 
 pub returns-then-next-eq0 : goal.returns-then-next-eq0
 returns-then-next-eq0 c =
-    let s = c in
-    let a = s.args in
+    let a = c.args in
     let z : a.at + a.w - a.at ≡ a.w = omega arith in
-    rw z (after_own a.avg.now a.next.now a.at a.w s.requires.0 c.if-e-avg.false c.if-next-eq0.true)
+    rw z (after_own a.avg.now a.next.now a.at a.w c.requires.0 c.if-e-avg.false c.if-next-eq0.true)
 
 pub returns-else-next-eq0 : goal.returns-else-next-eq0
 returns-else-next-eq0 c =
-    let s = c in
-    let a = s.args in
-    ⊎_elim (λ e. absurd (c.if-next-eq0.false e)) (λ e. after_outer a.avg.now a.next.now a.at a.w c.if-e-avg.false e) s.requires.2
+    let a = c.args in
+    ⊎_elim (λ e. absurd (c.if-next-eq0.false e)) (λ e. after_outer a.avg.now a.next.now a.at a.w c.if-e-avg.false e) c.requires.2

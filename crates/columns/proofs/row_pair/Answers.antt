@@ -5,9 +5,8 @@ use Rattle.columns.proofs.row_pair.Goals as goal
 
 pub columns_singly-requires : goal.columns_singly-requires
 columns_singly-requires c =
-    let s = c in
     let e = c.columns_by_eight-x.ensures in
-    (e.0, s.requires.0, s.requires.1, rw e.2.long s.requires.2)
+    (e.0, c.requires.0, c.requires.1, rw e.2.long c.requires.2)
 
 pub returns : goal.returns
 returns c =

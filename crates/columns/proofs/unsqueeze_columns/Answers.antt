@@ -37,22 +37,18 @@ fitted c =
 
 pub returns-then-not-fits : goal.returns-then-not-fits
 returns-then-not-fits c =
-    let s = c in
     let f = c.fits in
-    into_kept (asked s.before.before) s.args.out.now (rw f.ensures at c.if-not-fits.true)
+    into_kept (asked c.before.before) c.args.out.now (rw f.ensures at c.if-not-fits.true)
 
 pub returns-then-out-eq0 : goal.returns-then-out-eq0
-returns-then-out-eq0 c = let s = c in into_none (asked s.before.before.before) s.args.out.now c.if-out-eq0.true
+returns-then-out-eq0 c = into_none (asked c.before.before.before) c.args.out.now c.if-out-eq0.true
 
 pub unsqueeze_fitting-requires : goal.unsqueeze_fitting-requires
 unsqueeze_fitting-requires c =
-    let some = c in
-    let out = some.args.out.now in
-    let f = fitted some.before.before in
-    (f.0, some_averages f.0 out f.1 some.if-out-eq0.false, some_lines f.0 out f.1 some.if-out-eq0.false, f.1)
+    let out = c.args.out.now in
+    let f = fitted c.before.before in
+    (f.0, some_averages f.0 out f.1 c.if-out-eq0.false, some_lines f.0 out f.1 c.if-out-eq0.false, f.1)
 
 pub returns : goal.returns
 returns c =
-    let else = c in
-    let s = else in
-    rw c.unsqueeze_fitting.ensures (into_fits (asked s.before.before.before.before.before.before) s.args.out.now (tested else.before.before.before.before))
+    rw c.unsqueeze_fitting.ensures (into_fits (asked c.before.before.before.before.before.before) c.args.out.now (tested c.before.before.before.before))

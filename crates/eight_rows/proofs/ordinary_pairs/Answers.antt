@@ -19,29 +19,25 @@ loop-i-init c = (none, omega arith)
 
 pub part_pairs-last-requires : goal.part_pairs-last-requires
 part_pairs-last-requires c =
-    let head = c in
-    (sized head.loop-i.invariant.0.long head.requires.0, omega arith, omega arith)
+    (sized c.loop-i.invariant.0.long c.requires.0, omega arith, omega arith)
 
 pub loop-i-preserved : goal.loop-i-preserved
 loop-i-preserved c =
-    let head = c in
-    let z : 0 + head.loop-i.i ≡ head.loop-i.i = omega arith in
-    (join head.requires.0.low (omega arith) head.loop-i.invariant.0 (rw z c.part_pairs-last.ensures), omega arith)
+    let z : 0 + c.loop-i.i ≡ c.loop-i.i = omega arith in
+    (join c.requires.0.low (omega arith) c.loop-i.invariant.0 (rw z c.part_pairs-last.ensures), omega arith)
 
 pub single_pairs-requires : goal.single_pairs-requires
 single_pairs-requires c =
-    let head = c in
-    let pre = head.requires in
-    (sized head.loop-i.invariant.0.long pre.0, head.loop-i.invariant.1, pre.1, pre.2)
+    let pre = c.requires in
+    (sized c.loop-i.invariant.0.long pre.0, c.loop-i.invariant.1, pre.1, pre.2)
 
 pub shape_of-out : goal.shape_of-out
 shape_of-out c = c.single_pairs.ensures.long ∙ c.loop-i.invariant.0.long
 
 pub returns : goal.returns
 returns c =
-    let head = c in
-    let a = head.args in
-    let i = head.loop-i.i in
+    let a = c.args in
+    let i = c.loop-i.i in
     let z : 0 + i ≡ i = omega arith in
     let e : i + (a.to - i) ≡ a.to = omega arith in
-    rw (← e) (join head.requires.0.low (omega arith) head.loop-i.invariant.0 (rw z c.single_pairs.ensures))
+    rw (← e) (join c.requires.0.low (omega arith) c.loop-i.invariant.0 (rw z c.single_pairs.ensures))

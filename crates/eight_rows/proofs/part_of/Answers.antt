@@ -15,9 +15,8 @@ In-loop-k = Lts.In-loop tie.the-claims reads.Pre reads.Post goal.the-invariant-l
 -- the row of a turn
 inside : (c : In-loop-k) → let a = c.args in a.at + c.loop-k.k * a.n + 7 < length a.s.now
 inside c =
-    let head = c in
-    let a = head.args in
-    row_inside a.s.now a.at a.n c.loop-k.k (omega arith) head.requires.0 head.requires.1
+    let a = c.args in
+    row_inside a.s.now a.at a.n c.loop-k.k (omega arith) c.requires.0 c.requires.1
 
 pub loop-k-init : goal.loop-k-init
 loop-k-init c = taken_none c.args.s.now c.args.at c.args.n _ refl
@@ -35,13 +34,11 @@ pub loop-k-preserved : goal.loop-k-preserved
 loop-k-preserved c =
     let put = c.store_lanes in
     let row = c.load_lanes in
-    let head = c in
-    let a = head.args in
-    rw put.ensures (taken_more a.s.now a.at a.n head.loop-k.part _ head.loop-k.k (omega arith) row.ensures head.loop-k.invariant)
+    let a = c.args in
+    rw put.ensures (taken_more a.s.now a.at a.n c.loop-k.part _ c.loop-k.k (omega arith) row.ensures c.loop-k.invariant)
 
 pub returns : goal.returns
 returns c =
     λ j hj.
-    let head = c in
-    let a = head.args in
-    taken_all a.s.now a.at a.n head.loop-k.part head.loop-k.k j (omega arith) hj head.loop-k.invariant
+    let a = c.args in
+    taken_all a.s.now a.at a.n c.loop-k.part c.loop-k.k j (omega arith) hj c.loop-k.invariant

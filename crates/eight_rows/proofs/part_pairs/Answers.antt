@@ -12,8 +12,7 @@ loop-j-init c = (none, omega arith)
 
 pub four_pairs-last-requires : goal.four_pairs-last-requires
 four_pairs-last-requires c =
-    let start = c in
-    let sized = start.requires.0 in (
+    let sized = c.requires.0 in (
       sized.low,
       sized.avg_length,
       c.loop-j.invariant.0.long ∙ sized.out_length,
@@ -25,16 +24,13 @@ four_pairs-last-requires c =
 
 pub loop-j-preserved : goal.loop-j-preserved
 loop-j-preserved c =
-    let head = c in
-    let taken = head in
-    let start = taken in
-    let a = start.args in
-    let j = head.loop-j.j in
+    let a = c.args in
+    let j = c.loop-j.j in
     let e : 4 * (j + 1) ≡ 4 * j + 4 = omega arith in (
       rw e
-          (join start.requires.0.low (omega arith) head.loop-j.invariant.0
+          (join c.requires.0.low (omega arith) c.loop-j.invariant.0
           (c.four_pairs-last.ensures a.res.now
-          (λ k hk. let z : a.i + (4 * j + k) ≡ a.i + 4 * j + k = omega arith in taken.part_of-part.ensures (4 * j + k) (omega arith) ∙ rw z))),
+          (λ k hk. let z : a.i + (4 * j + k) ≡ a.i + 4 * j + k = omega arith in c.part_of-part.ensures (4 * j + k) (omega arith) ∙ rw z))),
       omega arith,
     )
 
@@ -43,6 +39,5 @@ shape_of-out c = c.loop-j.invariant.0.long
 
 pub returns : goal.returns
 returns c =
-    let head = c in
-    let e : head.loop-j.j ≡ 2 = omega arith in
-    rw e at head.loop-j.invariant.0
+    let e : c.loop-j.j ≡ 2 = omega arith in
+    rw e at c.loop-j.invariant.0

@@ -19,39 +19,30 @@ loop-i-init c =
 
 pub loop-i-preserved : goal.loop-i-preserved
 loop-i-preserved c =
-    let second_store = c in
-    let first_store = second_store in
-    let block = first_store.unsqueeze_block-pairs in
-    let after = first_store in
-    let residuals = after in
-    let averages = residuals in
-    let turn = averages in
-    let head = turn in
-    let start = head in
-    let a = start.args in
-    let i = head.loop-i.i in
-    let long = head.loop-i.invariant.1 in
-    let sized = start.requires.0 in
+    let block = c.unsqueeze_block-pairs in
+    let a = c.args in
+    let i = c.loop-i.i in
+    let long = c.loop-i.invariant.1 in
+    let sized = c.requires.0 in
     let inside : i < a.n = omega arith in
-    let lf : length after.load_lanes-in-loop-i-2.result ≡ 8 = rw after.load_lanes-in-loop-i-2.ensures (lanes_length a.avg.now (i + 1) a.m) in
+    let lf : length c.load_lanes-in-loop-i-2.result ≡ 8 = rw c.load_lanes-in-loop-i-2.ensures (lanes_length a.avg.now (i + 1) a.m) in
     let e : i + 1 - a.from ≡ i - a.from + 1 = omega arith in
     let z : a.from + (i - a.from) ≡ i = omega arith in (
-      rw (e, second_store.store_lanes-in-loop-i.ensures, first_store.store_lanes.ensures)
-          (join sized.low (omega arith) head.loop-i.invariant.0
+      rw (e, c.store_lanes-in-loop-i.ensures, c.store_lanes.ensures)
+          (join sized.low (omega arith) c.loop-i.invariant.0
           (rw z
-          (block_ordinary a.m a.n a.avg.now a.res.now averages.load_lanes.result residuals.load_lanes-in-loop-i.result after.load_lanes-in-loop-i-2.result
-          head.loop-i.before i inside sized.low lf long averages.load_lanes.ensures residuals.load_lanes-in-loop-i.ensures head.loop-i.out _ _
-          (head.loop-i.invariant.0.long ∙ sized.out_length) (rw block.ensures) (rw block.ensures) after.load_lanes-in-loop-i-2.ensures))),
+          (block_ordinary a.m a.n a.avg.now a.res.now c.load_lanes.result c.load_lanes-in-loop-i.result c.load_lanes-in-loop-i-2.result
+          c.loop-i.before i inside sized.low lf long c.load_lanes.ensures c.load_lanes-in-loop-i.ensures c.loop-i.out _ _
+          (c.loop-i.invariant.0.long ∙ sized.out_length) (rw block.ensures) (rw block.ensures) c.load_lanes-in-loop-i-2.ensures))),
       rw block.ensures
-          (block_length a.m a.n a.avg.now a.res.now averages.load_lanes.result residuals.load_lanes-in-loop-i.result after.load_lanes-in-loop-i-2.result
-          head.loop-i.before i inside sized.low lf long averages.load_lanes.ensures residuals.load_lanes-in-loop-i.ensures second),
+          (block_length a.m a.n a.avg.now a.res.now c.load_lanes.result c.load_lanes-in-loop-i.result c.load_lanes-in-loop-i-2.result
+          c.loop-i.before i inside sized.low lf long c.load_lanes.ensures c.load_lanes-in-loop-i.ensures second),
       omega arith,
       omega arith,
     )
 
 pub returns : goal.returns
 returns c =
-    let head = c in
-    let a = head.args in
-    let e : head.loop-i.i ≡ a.to = omega arith in
-    rw e at head.loop-i.invariant.0
+    let a = c.args in
+    let e : c.loop-i.i ≡ a.to = omega arith in
+    rw e at c.loop-i.invariant.0

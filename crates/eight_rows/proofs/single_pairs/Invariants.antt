@@ -10,7 +10,8 @@ use Rattle.eight_rows.proofs.single_pairs.Given as goal
 
 abbrev pub invariant-loop-i : goal.invariant-loop-i
 invariant-loop-i l =
-    Ordinary (lines_of true 8 l.m l.n l.avg l.res) (lane l.initial.before) (lane l.before) l.initial.out l.out l.from (l.i - l.from) × (length l.before ≡ 8) × (l.from ≤ l.i) × (l.i ≤ l.to)
+    Ordinary (lines_of true 8 l.m l.n l.avg l.res) (lane l.initial.before) (lane l.before) l.initial.out l.out l.from (l.i - l.from)
+    × (length l.before ≡ 8) × (l.from ≤ l.i) × (l.i ≤ l.to)
 
 abbrev pub decreases-loop-i : goal.decreases-loop-i
 decreases-loop-i l = l.to - l.i

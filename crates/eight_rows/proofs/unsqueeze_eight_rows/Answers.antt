@@ -38,22 +38,18 @@ fitted c =
 
 pub returns-then-not-fits : goal.returns-then-not-fits
 returns-then-not-fits c =
-    let s = c in
     let f = c.fits in
-    into_kept (asked s.before.before) s.args.out.now (rw f.ensures at c.if-not-fits.true)
+    into_kept (asked c.before.before) c.args.out.now (rw f.ensures at c.if-not-fits.true)
 
 pub returns-then-m-eq0 : goal.returns-then-m-eq0
 returns-then-m-eq0 c =
-    let s = c in
     let f = fitted c.before in
     let low = f.0.low in
-    into_none (asked s.before.before.before) s.args.out.now (f.1 ∙ omega arith)
+    into_none (asked c.before.before.before) c.args.out.now (f.1 ∙ omega arith)
 
 pub unsqueeze_fitting-requires : goal.unsqueeze_fitting-requires
 unsqueeze_fitting-requires c = let f = fitted c.before.before in (f.0, omega (arith, c.if-m-eq0.false), f.1)
 
 pub returns : goal.returns
 returns c =
-    let else = c in
-    let s = else in
-    rw c.unsqueeze_fitting.ensures (into_fits (asked s.before.before.before.before.before.before) s.args.out.now (tested else.before.before.before.before))
+    rw c.unsqueeze_fitting.ensures (into_fits (asked c.before.before.before.before.before.before) c.args.out.now (tested c.before.before.before.before))

@@ -10,33 +10,27 @@ use Rattle.eight_rows.proofs.unsqueeze_fitting.Goals as goal
 
 pub returns-then-n-eq0 : goal.returns-then-n-eq0
 returns-then-n-eq0 c =
-    let start = c in
-    let a = start.args in
+    let a = c.args in
     let own = c.load_lanes-own in
     let l = lanes_put_length a.out.now 0 a.m own.result in
     rw c.store_lanes.ensures
-    (copied start.requires.0 c.if-n-eq0.true (omega arith)
+    (copied c.requires.0 c.if-n-eq0.true (omega arith)
     (λ k hk _.
     let z : a.m + a.n ≡ a.m = omega arith in
     let p : k * a.m + 0 ≡ 0 + k * a.m = omega arith in
     rw (z, p)
-    (lanes_put_on a.out.now 0 a.m own.result k start.requires.1 (omega arith) hk
+    (lanes_put_on a.out.now 0 a.m own.result k c.requires.1 (omega arith) hk
     ∙ rw own.ensures (lanes_at_lem a.avg.now 0 a.m k hk))))
 
 pub last_lanes-requires : goal.last_lanes-requires
 last_lanes-requires c =
-    let pairs = c in
-    let start = pairs in
-    (without_previous start.requires.0, omega arith, pairs.ordinary_pairs-before.ensures.long ∙ start.requires.2)
+    (without_previous c.requires.0, omega arith, c.ordinary_pairs-before.ensures.long ∙ c.requires.2)
 
 pub returns : goal.returns
 returns c =
-    let pairs = c in
-    let prior = pairs in
-    let start = prior in
-    let a = start.args in
-    put_together start.requires.0 start.requires.2
-    (block_before a.m a.n a.avg.now a.res.now a.next.now a.prev.now prior.load_lanes-own.result prior.outer_lanes-prior.result
-    prior.load_lanes-own.ensures prior.outer_lanes-prior.ensures)
-    pairs.ordinary_pairs-before.ensures
+    let a = c.args in
+    put_together c.requires.0 c.requires.2
+    (block_before a.m a.n a.avg.now a.res.now a.next.now a.prev.now c.load_lanes-own.result c.outer_lanes-prior.result
+    c.load_lanes-own.ensures c.outer_lanes-prior.ensures)
+    c.ordinary_pairs-before.ensures
     (c.last_lanes.ensures a.prev.now)

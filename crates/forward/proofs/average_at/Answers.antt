@@ -2,6 +2,7 @@
 use mathlib.Core.Path.{◌∙◌, sym}
 use mathlib.Core.Bool.{true}
 use native.Mathlib.Omega.{arith}
+use borrow.Author.Rules.{rules}
 use Rattle.line.specs.Forward.{line_in}
 use Rattle.arith32.proofs.Whole.{back32}
 use Rattle.forward.proofs.Entries.{average_pair, average_tail}
@@ -23,5 +24,5 @@ returns c =
     let a = tested.args in
     let b1 = back32 first.result first.type_inv ∙ first.ensures in
     let b2 = back32 second.result second.type_inv ∙ second.ensures in
-    back32 pair.result.average c.struct_told-1.given.0.1 ∙ rw (b1, b2) at pair.ensures.0
+    back32 pair.result.average (search rules) ∙ rw (b1, b2) at pair.ensures.0
     ∙ sym (average_pair (line_in true a.lines a.size a.xs.now a.k) a.size a.i (omega arith))

@@ -87,7 +87,14 @@ squeeze_stretch-requires c =
     let a = start.args in
     let s = a.last * a.lines in
     let n = length a.out.now in
-    rw (p1.samples_from.ensures, p2.samples_from-2.ensures, p3.samples_from-3.ensures, p4.samples_from-4.ensures, p5.samples_from-5.ensures, part_length s (n - s) a.out.now (omega (arith, ends start.before.before.before.before.before.before.before.before))) (
+    rw (
+      p1.samples_from.ensures,
+      p2.samples_from-2.ensures,
+      p3.samples_from-3.ensures,
+      p4.samples_from-4.ensures,
+      p5.samples_from-5.ensures,
+      part_length s (n - s) a.out.now (omega (arith, ends start.before.before.before.before.before.before.before.before)),
+    ) (
       reach_across a.lines a.size a.xs.now start.requires.0 _ (omega arith),
       reach_across a.lines a.size a.xs.now start.requires.0 _ (omega arith),
       reach_across a.lines a.size a.xs.now start.requires.0 _ (omega arith),
@@ -112,5 +119,6 @@ returns c =
     let f = rw (p4.samples_from-4.ensures, p5.samples_from-5.ensures) at e in
     let made = rw (places.next_second-fourth.ensures, places.next_first-third.ensures) at f in
     row_put a.lines a.size a.xs.now a.last start.requires.4 third (next_second a.size third) a.r
-    (length a.out.now - a.last * a.lines) a.out.now _ start.requires.3 start.requires.2 start.requires.1 (omega (arith, ends start.before.before.before.before.before.before.before.before.before.before))
+    (length a.out.now - a.last * a.lines) a.out.now _ start.requires.3 start.requires.2 start.requires.1
+    (omega (arith, ends start.before.before.before.before.before.before.before.before.before.before))
     (last_row a.lines a.size a.xs.now a.last start.requires.4 made.1) made.0

@@ -3,6 +3,7 @@ use mathlib.Core.Path.{◌≡◌, ◌∙◌, sym}
 use mathlib.Core.Bool.{true}
 use mir.Val.{to_z, of_z}
 use mir.Syntax.{w32}
+use borrow.Author.Rules.{rules}
 use Rattle.line.specs.Forward.{line_in, average_at}
 use Rattle.arith32.proofs.Whole.{back32}
 use Rattle.forward.proofs.Entries.{average_pair, residual_pair}
@@ -18,7 +19,7 @@ own c =
     let a = start.args in
     let b1 = back32 first.result first.type_inv ∙ first.ensures in
     let b2 = back32 second.result second.type_inv ∙ second.ensures in
-    back32 pair.result.average c.struct_told-1.given.0.1 ∙ rw (b1, b2) at pair.ensures.0
+    back32 pair.result.average (search rules) ∙ rw (b1, b2) at pair.ensures.0
     ∙ sym (average_pair (line_in true a.lines a.size a.xs.now a.k) a.size a.i start.requires.2)
 
 pub next_at-requires : goal.next_at-requires
@@ -43,8 +44,8 @@ returns c =
     let a = told.args in
     let b1 = back32 first.result first.type_inv ∙ first.ensures in
     let b2 = back32 second.result second.type_inv ∙ second.ensures in
-    let b3 = back32 pair.result.difference told.struct_told-2-1.given.1.0.1 ∙ rw (b1, b2) at pair.ensures.1 in
-    let b4 = back32 pair.result.average told.struct_told-1.given.0.1 ∙ rw (b1, b2) at pair.ensures.0 in
+    let b3 = back32 pair.result.difference (search rules) ∙ rw (b1, b2) at pair.ensures.1 in
+    let b4 = back32 pair.result.average (search rules) ∙ rw (b1, b2) at pair.ensures.0 in
     let b5 = back32 next.result next.type_inv ∙ next.ensures in
     let b6 = back32 prev.result prev.type_inv ∙ prev.ensures in
     back32 last.result last.type_inv ∙ rw (b3, b4, b5, b6) at last.ensures

@@ -2,6 +2,7 @@
 use mathlib.Core.Bool.{true}
 use Prim.Native.Nat.{◌+◌, ◌*◌, ◌<◌}
 use native.Mathlib.Omega.{arith}
+use borrow.Author.Rules.{rules}
 use lib.IntN.{pos}
 use lib.ListN.{length, get_or}
 use Rattle.arith32.proofs.Whole.{back32}
@@ -29,4 +30,4 @@ bounds-xs-k c = omega (arith, inside c)
 pub returns : goal.returns
 returns c =
     let a = c.args in
-    back32 (get_or a.xs.now (a.k * a.size + a.i) (pos 0)) c.result-1.given
+    back32 (get_or a.xs.now (a.k * a.size + a.i) (pos 0)) (search rules)

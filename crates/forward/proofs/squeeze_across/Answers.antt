@@ -79,10 +79,12 @@ returns-then-n-size c =
     let r = a.lines * (a.size - n) in
     let p = made.pairs_across.ensures in
     squeezed_all false a.lines a.size a.xs.now {m = n * a.lines + a.lines} {n = n * a.lines} start.requires.1
-    (omega (arith, sizes start.before.before.before.before.before.before.before.before, tails then.before.before.before.before)) (sizes start.before.before.before.before.before.before.before.before).0 (sizes start.before.before.before.before.before.before.before.before).2
+    (omega (arith, sizes start.before.before.before.before.before.before.before.before, tails then.before.before.before.before))
+    (sizes start.before.before.before.before.before.before.before.before).0 (sizes start.before.before.before.before.before.before.before.before).2
     (put_join (squeezed_entry false a.lines a.size a.xs.now) p
     (tails_put a.lines a.size a.xs.now n (r + n * a.lines) (r - n * a.lines) _ _ start.requires.0 (omega (arith, then.if-n-size.true))
-    (p.long ∙ start.requires.1) (omega (arith, sizes start.before.before.before.before.before.before.before.before, tails then.before.before.before.before)) (rw from.samples_from.ensures at c.copy.ensures))
+    (p.long ∙ start.requires.1)
+    (omega (arith, sizes start.before.before.before.before.before.before.before.before, tails then.before.before.before.before)) (rw from.samples_from.ensures at c.copy.ensures))
     (omega arith) refl refl (omega arith))
 
 pub returns-else-n-size : goal.returns-else-n-size

@@ -202,7 +202,14 @@ squeeze_stretch-requires c =
     let n = a.size / 2 - 2 in
     let out = then.if-n-gt0.out in
     let long = room then.before.before.before.before.before.before in
-    rw (p1.samples_from.ensures, p2.samples_from-then-n-gt2.ensures, p3.samples_from-then-n-gt2-2.ensures, p4.samples_from-then-n-gt2-3.ensures, p5.samples_from-then-n-gt2-4.ensures, part_length (a.a + 1) (length out - (a.a + 1)) out (omega arith)) (
+    rw (
+      p1.samples_from.ensures,
+      p2.samples_from-then-n-gt2.ensures,
+      p3.samples_from-then-n-gt2-2.ensures,
+      p4.samples_from-then-n-gt2-3.ensures,
+      p5.samples_from-then-n-gt2-4.ensures,
+      part_length (a.a + 1) (length out - (a.a + 1)) out (omega arith),
+    ) (
       reach_along a.lines a.size a.xs.now start.requires.0 a.y _ n start.requires.2 (omega arith),
       reach_along a.lines a.size a.xs.now start.requires.0 a.y _ n start.requires.2 (omega arith),
       reach_along a.lines a.size a.xs.now start.requires.0 a.y _ n start.requires.2 (omega arith),

@@ -63,7 +63,14 @@ squeeze_stretch-requires c =
     let a = start.args in
     let s = a.y * a.lines in
     let n = length a.out.now in
-    rw (p1.samples_from.ensures, p2.samples_from-2.ensures, p3.samples_from-3.ensures, p4.samples_from-4.ensures, p5.samples_from-5.ensures, part_length s (n - s) a.out.now (omega (arith, ends start.before.before.before.before.before.before))) (
+    rw (
+      p1.samples_from.ensures,
+      p2.samples_from-2.ensures,
+      p3.samples_from-3.ensures,
+      p4.samples_from-4.ensures,
+      p5.samples_from-5.ensures,
+      part_length s (n - s) a.out.now (omega (arith, ends start.before.before.before.before.before.before)),
+    ) (
       reach_across a.lines a.size a.xs.now start.requires.0 _ (omega arith),
       reach_across a.lines a.size a.xs.now start.requires.0 _ (omega arith),
       reach_across a.lines a.size a.xs.now start.requires.0 _ (omega arith),

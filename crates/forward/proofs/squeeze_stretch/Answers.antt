@@ -3,6 +3,7 @@
 use mathlib.Core.Path.{◌≡◌, ◌∙◌}
 use Prim.Native.Nat.{◌*◌, ◌<◌}
 use native.Mathlib.Omega.{arith}
+use borrow.Author.Rules.{rules}
 use lib.IntN.{pos}
 use lib.ListN.{length, get_or, length-set}
 use Rattle.arith32.proofs.Whole.{back32}
@@ -79,19 +80,20 @@ loop-x-preserved c =
     let a = turn.args in
     let x = turn.loop-x.x in
     let i = x * a.step in
-    let b0 = back32 (get_or a.before.now i (pos 0)) asked.residual_lane-arg-1.given in
-    let b1 = back32 (get_or a.first.now i (pos 0)) own.squeeze-arg-1.given in
-    let b2 = back32 (get_or a.second.now i (pos 0)) own.squeeze-arg-in-loop-x-1.given in
-    let b3 = back32 (get_or a.third.now i (pos 0)) next.squeeze-arg-in-loop-x-2-1.given in
-    let b4 = back32 (get_or a.fourth.now i (pos 0)) next.squeeze-arg-in-loop-x-3-1.given in
-    let d = back32 own.squeeze-own.result.difference told.struct_told-1.given.1.0.1 ∙ rw (b1, b2) at own.squeeze-own.ensures.1 in
-    let v = back32 own.squeeze-own.result.average told.struct_told-in-loop-x-1.given.0.1 ∙ rw (b1, b2) at own.squeeze-own.ensures.0 in
-    let w = back32 next.squeeze-next.result.average told.struct_told-in-loop-x-2-1.given.0.1 ∙ rw (b3, b4) at next.squeeze-next.ensures.0 in (
+    let b0 = back32 (get_or a.before.now i (pos 0)) (search rules) in
+    let b1 = back32 (get_or a.first.now i (pos 0)) (search rules) in
+    let b2 = back32 (get_or a.second.now i (pos 0)) (search rules) in
+    let b3 = back32 (get_or a.third.now i (pos 0)) (search rules) in
+    let b4 = back32 (get_or a.fourth.now i (pos 0)) (search rules) in
+    let d = back32 own.squeeze-own.result.difference (search rules) ∙ rw (b1, b2) at own.squeeze-own.ensures.1 in
+    let v = back32 own.squeeze-own.result.average (search rules) ∙ rw (b1, b2) at own.squeeze-own.ensures.0 in
+    let w = back32 next.squeeze-next.result.average (search rules) ∙ rw (b3, b4) at next.squeeze-next.ensures.0 in (
       omega (arith, turn.loop-x-test.true),
-      stretch_more (average_over a.first.now a.second.now a.step) (residual_over a.before.now a.first.now a.second.now a.third.now a.fourth.now a.step) a.r x _ _ (omega (arith, turn.loop-x-test.true)) (omega (arith, turn.loop-x-test.true)) v
+      stretch_more (average_over a.first.now a.second.now a.step) (residual_over a.before.now a.first.now a.second.now a.third.now a.fourth.now a.step) a.r x _ _
+          (omega (arith, turn.loop-x-test.true)) (omega (arith, turn.loop-x-test.true)) v
           (back32 last.result last.type_inv ∙ rw (d, v, w, b0) at last.ensures)
           turn.loop-x.invariant.1,
-      read_more a.step a.third.now x next.squeeze-arg-in-loop-x-2-1.given turn.loop-x.invariant.2,
+      read_more a.step a.third.now x (search rules) turn.loop-x.invariant.2,
     )
 
 pub shape_of-out : goal.shape_of-out

@@ -2,6 +2,7 @@
 use mathlib.Core.Path.{◌≡◌, refl, sym, ◌∙◌}
 use mathlib.Core.Bool.{true}
 use native.Mathlib.Omega.{arith}
+use borrow.Author.Rules.{rules}
 use Rattle.places.specs.Places as Places
 use Rattle.places.proofs.Steps.{residuals_inside}
 use Rattle.places.proofs.Placed.{fits_facts, refused, placed}
@@ -31,10 +32,10 @@ spread-requires c =
     let i = residuals_inside a.count a.step f.0 in
     let e = r.residuals_at-at.ensures in (
       record {
-        widths = c.spread-arg-1.given.0.1;
-        heights = c.spread-arg-2-1.given.0.1;
-        homes = c.spread-arg-3-1.given.0.1;
-        slots = c.spread-arg-4-1.given.0.1;
+        widths = (search rules);
+        heights = (search rules);
+        homes = (search rules);
+        slots = (search rules);
       },
       omega arith,
       f.1,
@@ -48,10 +49,10 @@ split-requires c =
     let i = residuals_inside a.count a.step f.0 in
     let e = r.residuals_at-at.ensures in (
       record {
-        widths = c.split-arg-1.given.0.1;
-        heights = c.split-arg-2-1.given.0.1;
-        homes = c.split-arg-3-1.given.0.1;
-        slots = c.split-arg-4-1.given.0.1;
+        widths = (search rules);
+        heights = (search rules);
+        homes = (search rules);
+        slots = (search rules);
       },
       omega arith,
       omega arith,
@@ -76,16 +77,16 @@ returns c =
     placed a.count a.step a.widths.now a.heights.now a.homes.now a.slots.now
     g.widths g.heights g.homes g.slots u.widths u.heights u.homes u.slots (fitting r.before.before.before.before.before.before.before.before.before.before.before.before.before)
     (record {
-      widths = m.spread-arg-1.given.0.1;
-      heights = m.spread-arg-2-1.given.0.1;
-      homes = m.spread-arg-3-1.given.0.1;
-      slots = m.spread-arg-4-1.given.0.1;
+      widths = (search rules);
+      heights = (search rules);
+      homes = (search rules);
+      slots = (search rules);
     })
     (record {
-      widths = k.widths ∙ c.split-arg-1.given.0.1;
-      heights = k.heights ∙ c.split-arg-2-1.given.0.1;
-      homes = k.homes ∙ c.split-arg-3-1.given.0.1;
-      slots = k.slots ∙ c.split-arg-4-1.given.0.1;
+      widths = k.widths ∙ (search rules);
+      heights = k.heights ∙ (search rules);
+      homes = k.homes ∙ (search rules);
+      slots = k.slots ∙ (search rules);
     })
     (rw e at m.spread.ensures)
     (rw e at c.split.ensures)

@@ -63,15 +63,11 @@ slice_bounds-unsqueeze_eight_rows-end-in-loop-y c = omega (arith, fit c.before)
 
 pub outer_part-requires : goal.outer_part-requires
 outer_part-requires c =
-    let turn = c in
-    let start = turn in
-    (omega arith, outer_inside turn.loop-y.y 8 start.args.lines start.args.next.now (fit turn.before.before).among start.requires.0.next_length)
+    (omega arith, outer_inside c.loop-y.y 8 c.args.lines c.args.next.now (fit c.before.before).among c.requires.0.next_length)
 
 pub outer_part-requires-in-loop-y : goal.outer_part-requires-in-loop-y
 outer_part-requires-in-loop-y c =
-    let turn = c in
-    let start = turn in
-    (omega arith, outer_inside turn.loop-y.y 8 start.args.lines start.args.prev.now (fit turn.before.before.before).among start.requires.0.prev_length)
+    (omega arith, outer_inside c.loop-y.y 8 c.args.lines c.args.prev.now (fit c.before.before.before).among c.requires.0.prev_length)
 
 pub overflow_mul-y-in-loop-y-2 : goal.overflow_mul-y-in-loop-y-2
 overflow_mul-y-in-loop-y-2 c = omega (arith, fit c.before.before.before.before)
@@ -96,21 +92,20 @@ loop-y-preserved c =
     let new = c.unsqueeze_eight_rows.ensures in
     let prior = c.outer_part-in-loop-y.ensures in
     let after = c.outer_part.ensures in
-    let turn = c in
-    let y = turn.loop-y.y in
-    let a = turn.args in
-    let pre = turn.requires in
+    let y = c.loop-y.y in
+    let a = c.args in
+    let pre = c.requires in
     let size = a.m + a.n in
-    let d = turn.loop-y.invariant in
+    let d = c.loop-y.invariant in
     let e : y + 8 - y ≡ 8 = omega arith in
     rw (rows_span y 8 size)
     (down_more a.lines size _ a.out.now
     (uncut_length (squeeze true a.lines a.m a.n a.avg.now a.res.now a.next.now a.prev.now)) pre.2
-    turn.loop-y.out _ y 8 (fit turn.before.before.before.before.before.before.before).among
+    c.loop-y.out _ y 8 (fit c.before.before.before.before.before.before.before).among
     (rw (rows_span y 8 a.m, rows_span y 8 a.n, rows_span y 8 size, after, prior, e) at new
-    ∙ strip_into a.lines a.m a.n a.avg.now a.res.now a.next.now a.prev.now pre.0 y 8 (fit turn.before.before.before.before.before.before.before).among pre.1
-    _ (part_length (y * size) (8 * size) turn.loop-y.out (omega (arith, rows_room y 8 a.lines size (fit turn.before.before.before.before.before.before.before).among))))
-    turn.loop-y.invariant)
+    ∙ strip_into a.lines a.m a.n a.avg.now a.res.now a.next.now a.prev.now pre.0 y 8 (fit c.before.before.before.before.before.before.before).among pre.1
+    _ (part_length (y * size) (8 * size) c.loop-y.out (omega (arith, rows_room y 8 a.lines size (fit c.before.before.before.before.before.before.before).among))))
+    c.loop-y.invariant)
 
 pub returns : goal.returns
 returns c = let d = c.loop-y.invariant in (d.inside, omega arith, d.so)

@@ -63,15 +63,11 @@ slice_bounds-one_row-end-in-loop-y c = omega (arith, fit c.before)
 
 pub outer_part-requires : goal.outer_part-requires
 outer_part-requires c =
-    let turn = c in
-    let start = turn in
-    (omega arith, outer_inside turn.loop-y.y 1 start.args.lines start.args.next.now (fit turn.before.before).among start.requires.0.next_length)
+    (omega arith, outer_inside c.loop-y.y 1 c.args.lines c.args.next.now (fit c.before.before).among c.requires.0.next_length)
 
 pub outer_part-requires-in-loop-y : goal.outer_part-requires-in-loop-y
 outer_part-requires-in-loop-y c =
-    let turn = c in
-    let start = turn in
-    (omega arith, outer_inside turn.loop-y.y 1 start.args.lines start.args.prev.now (fit turn.before.before.before).among start.requires.0.prev_length)
+    (omega arith, outer_inside c.loop-y.y 1 c.args.lines c.args.prev.now (fit c.before.before.before).among c.requires.0.prev_length)
 
 pub overflow_mul-y-in-loop-y-2 : goal.overflow_mul-y-in-loop-y-2
 overflow_mul-y-in-loop-y-2 c = omega (arith, fit c.before.before.before.before)
@@ -95,18 +91,17 @@ pub one_row-requires : goal.one_row-requires
 one_row-requires c =
     let prior = c.outer_part-in-loop-y.ensures in
     let after = c.outer_part.ensures in
-    let turn = c in
-    let y = turn.loop-y.y in
-    let a = turn.args in
-    let pre = turn.requires in
+    let y = c.loop-y.y in
+    let a = c.args in
+    let pre = c.requires in
     let size = a.m + a.n in
     let e : y + 1 - y ≡ 1 = omega arith in
-    let la = row_length y a.lines a.m a.avg.now (fit turn.before.before.before.before.before).among pre.0.avg_length in
-    let lr = row_length y a.lines a.n a.res.now (fit turn.before.before.before.before.before).among pre.0.res_length in
+    let la = row_length y a.lines a.m a.avg.now (fit c.before.before.before.before.before).among pre.0.avg_length in
+    let lr = row_length y a.lines a.n a.res.now (fit c.before.before.before.before.before).among pre.0.res_length in
     rw (rows_span y 1 a.m, rows_span y 1 a.n, rows_span y 1 size, after, prior, e, la, lr) (
-      strip_fitting a.lines a.m a.n a.avg.now a.res.now a.next.now a.prev.now pre.0 y 1 (fit turn.before.before.before.before.before).among,
+      strip_fitting a.lines a.m a.n a.avg.now a.res.now a.next.now a.prev.now pre.0 y 1 (fit c.before.before.before.before.before).among,
       pre.1,
-      row_length y a.lines size turn.loop-y.out (fit turn.before.before.before.before.before).among turn.loop-y.invariant.0.long,
+      row_length y a.lines size c.loop-y.out (fit c.before.before.before.before.before).among c.loop-y.invariant.0.long,
     )
 
 pub loop-y-preserved : goal.loop-y-preserved
@@ -114,21 +109,20 @@ loop-y-preserved c =
     let new = c.one_row.ensures in
     let prior = c.outer_part-in-loop-y.ensures in
     let after = c.outer_part.ensures in
-    let turn = c in
-    let y = turn.loop-y.y in
-    let a = turn.args in
-    let pre = turn.requires in
+    let y = c.loop-y.y in
+    let a = c.args in
+    let pre = c.requires in
     let size = a.m + a.n in
     let e : y + 1 - y ≡ 1 = omega arith in
-    let la = row_length y a.lines a.m a.avg.now (fit turn.before.before.before.before.before.before.before).among pre.0.avg_length in
-    let lr = row_length y a.lines a.n a.res.now (fit turn.before.before.before.before.before.before.before).among pre.0.res_length in (
+    let la = row_length y a.lines a.m a.avg.now (fit c.before.before.before.before.before.before.before).among pre.0.avg_length in
+    let lr = row_length y a.lines a.n a.res.now (fit c.before.before.before.before.before.before.before).among pre.0.res_length in (
       rw (rows_span y 1 size)
           (rest_more a.lines size _ a.out.now
           (uncut_length (squeeze true a.lines a.m a.n a.avg.now a.res.now a.next.now a.prev.now)) pre.2 a.from pre.3
-          turn.loop-y.out _ y 1 turn.loop-y.invariant.1 (fit turn.before.before.before.before.before.before.before).among
+          c.loop-y.out _ y 1 c.loop-y.invariant.1 (fit c.before.before.before.before.before.before.before).among
           (rw (rows_span y 1 a.m, rows_span y 1 a.n, after, prior, e, la, lr) at new
-          ∙ strip_uncut a.lines a.m a.n a.avg.now a.res.now a.next.now a.prev.now pre.0 y 1 (fit turn.before.before.before.before.before.before.before).among pre.1)
-          turn.loop-y.invariant.0),
+          ∙ strip_uncut a.lines a.m a.n a.avg.now a.res.now a.next.now a.prev.now pre.0 y 1 (fit c.before.before.before.before.before.before.before).among pre.1)
+          c.loop-y.invariant.0),
       omega arith,
     )
 

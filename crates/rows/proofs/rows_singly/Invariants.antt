@@ -7,7 +7,9 @@ use Rattle.rows.proofs.Bands.{Down, patch}
 use Rattle.rows.proofs.rows_singly.Given as goal
 
 abbrev pub invariant-loop-y : goal.invariant-loop-y
-invariant-loop-y l = Down l.lines (l.m + l.n) (patch l.initial.out (uncut (squeeze true l.lines l.m l.n l.avg l.res l.next l.prev)) (l.from * (l.m + l.n))) l.initial.out l.out l.y × (l.from ≤ l.y)
+invariant-loop-y l =
+    Down l.lines (l.m + l.n) (patch l.initial.out (uncut (squeeze true l.lines l.m l.n l.avg l.res l.next l.prev)) (l.from * (l.m + l.n))) l.initial.out l.out l.y
+    × (l.from ≤ l.y)
 
 abbrev pub decreases-loop-y : goal.decreases-loop-y
 decreases-loop-y l = l.lines - l.y

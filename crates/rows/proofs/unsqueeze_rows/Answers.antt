@@ -40,36 +40,31 @@ fitted c =
 
 pub returns-then-not-fits : goal.returns-then-not-fits
 returns-then-not-fits c =
-    let s = c in
     let f = c.fits in
-    into_kept (asked s.before.before) s.args.out.now (rw f.ensures at c.if-not-fits.true)
+    into_kept (asked c.before.before) c.args.out.now (rw f.ensures at c.if-not-fits.true)
 
 pub returns-then-out-eq0 : goal.returns-then-out-eq0
-returns-then-out-eq0 c = let s = c in into_none (asked s.before.before.before) s.args.out.now c.if-out-eq0.true
+returns-then-out-eq0 c = into_none (asked c.before.before.before) c.args.out.now c.if-out-eq0.true
 
 pub rows_by_eight-y-requires : goal.rows_by_eight-y-requires
 rows_by_eight-y-requires c =
-    let some = c in
-    let out = some.args.out.now in
-    let f = fitted some.before.before in
-    (f.0, some_averages f.0 out f.1 some.if-out-eq0.false, f.1)
+    let out = c.args.out.now in
+    let f = fitted c.before.before in
+    (f.0, some_averages f.0 out f.1 c.if-out-eq0.false, f.1)
 
 pub rows_singly-requires : goal.rows_singly-requires
 rows_singly-requires c =
     let eights = c.rows_by_eight-y in
-    let some = c in
-    let out = some.args.out.now in
-    let f = fitted some.before.before.before.before.before in
-    (f.0, some_averages f.0 out f.1 some.if-out-eq0.false, eights.auto.out ∙ f.1, eights.ensures.0)
+    let out = c.args.out.now in
+    let f = fitted c.before.before.before.before.before in
+    (f.0, some_averages f.0 out f.1 c.if-out-eq0.false, eights.auto.out ∙ f.1, eights.ensures.0)
 
 pub returns : goal.returns
 returns c =
     let eights = c.rows_by_eight-y in
-    let else = c in
-    let start = else in
-    let a = start.args in
-    let s = asked start.before.before.before.before.before.before.before.before.before in
+    let a = c.args in
+    let s = asked c.before.before.before.before.before.before.before.before.before in
     let size = a.m + a.n in
     c.rows_singly.ensures
     ∙ rw eights.ensures.2 (patch_both (uncut s) a.out.now (eights.result * size) (rw (uncut_length s) (mul-le-mul_right size eights.ensures.0)))
-    ∙ into_fits s a.out.now (tested else.before.before.before.before.before.before.before)
+    ∙ into_fits s a.out.now (tested c.before.before.before.before.before.before.before)

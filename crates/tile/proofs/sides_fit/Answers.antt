@@ -41,18 +41,16 @@ all_small c = sym (small c.before) ∙ c.if-not-sides_small.false
 -- the sides that are summed
 average-small : (c : goal.After-across-crossing) → c.along-m.result ≤ max_side
 average-small c =
-    let e = c in
-    let g = e.args in
+    let g = c.args in
     rw c.along-m.ensures
-    (along-small g.horizontal g.a (and_true (sides_small g.a) (sides_small g.r && sides_small g.o) (all_small e.before.before.before)).0)
+    (along-small g.horizontal g.a (and_true (sides_small g.a) (sides_small g.r && sides_small g.o) (all_small c.before.before.before)).0)
 
 residual-small : (c : goal.After-across-crossing) → c.along-n.result ≤ max_side
 residual-small c =
-    let e = c in
-    let g = e.args in
+    let g = c.args in
     rw c.along-n.ensures
     (along-small g.horizontal g.r
-    (and_true (sides_small g.r) (sides_small g.o) (and_true (sides_small g.a) (sides_small g.r && sides_small g.o) (all_small e.before.before.before)).1).0)
+    (and_true (sides_small g.r) (sides_small g.o) (and_true (sides_small g.a) (sides_small g.r && sides_small g.o) (all_small c.before.before.before)).1).0)
 
 pub returns-then-not-sides_small : goal.returns-then-not-sides_small
 unfolding sides_fit
@@ -67,8 +65,7 @@ overflow_add-result-2 c = omega (arith, residual-small c.before, average-small c
 pub returns : goal.returns
 unfolding sides_fit
 returns c =
-    let f = c in
-    let m = f.along-m in
-    let n = f.along-n in
-    let q = f.across-crossing in
-    rw (all_small f.before.before.before.before.before.before, ← m.ensures, ← n.ensures, ← q.ensures, ← c.along.ensures, ← c.across.ensures, ← c.across-2.ensures)
+    let m = c.along-m in
+    let n = c.along-n in
+    let q = c.across-crossing in
+    rw (all_small c.before.before.before.before.before.before, ← m.ensures, ← n.ensures, ← q.ensures, ← c.along.ensures, ← c.across.ensures, ← c.across-2.ensures)

@@ -40,7 +40,7 @@ unfolding areas_allowed
 areas c b e = rw (← c.area_allowed.ensures, ← c.area_allowed-2.ensures, ← c.area_allowed-3.ensures) e
 
 areas-yes : (c : Else-not-area_allowed) → areas_allowed (the_call c.before.before.before.before) ≡ true
-areas-yes c = areas c.before true (c.if-not-area_allowed.false)
+areas-yes c = areas c.before true c.if-not-area_allowed.false
 
 each-area : (c : Else-not-area_allowed) → let g = c.args in
     (area_allowed (record { width = g.aw; height = g.ah }) ≡ true)
@@ -64,7 +64,7 @@ sizes c b e =
     rw (← same_test n k.next, ← same_test n k.prev, ← c.sides_fit.ensures, ← x, ← c.outer_fits.ensures, ← c.outer_fits-2.ensures) e
 
 sizes-yes : (c : goal.Else-not-sides_fit-outer_fits) → sizes_fit (the_call c.before.before.before.before.before.before.before.before.before) ≡ true
-sizes-yes c = sizes c.before true (c.if-not-sides_fit-outer_fits.false)
+sizes-yes c = sizes c.before true c.if-not-sides_fit-outer_fits.false
 
 -- ---- question 14
 slices-no : (c : goal.Then-not-avg-aw) → slices_fit (the_call c.before.before.before.before.before.before.before.before.before.before) ≡ false
@@ -78,40 +78,38 @@ slices-yes c = c.if-not-avg-aw.false
 pub returns-then-not-area_allowed : goal.returns-then-not-area_allowed
 returns-then-not-area_allowed c =
     let k = the_call c.before.before.before.before in
-    let n = five k (areas c.before false (c.if-not-area_allowed.true)) in
+    let n = five k (areas c.before false c.if-not-area_allowed.true) in
     (sym n, sym (kept k 4 n))
 
 pub returns-then-not-sides_fit-outer_fits : goal.returns-then-not-sides_fit-outer_fits
 returns-then-not-sides_fit-outer_fits c =
-    let e = c in
-    let k = the_call e.before.before.before.before.before.before.before.before.before in
-    let n = thirteen k (areas-yes e.before.before.before.before.before) (sizes c.before false (c.if-not-sides_fit-outer_fits.true)) in
+    let k = the_call c.before.before.before.before.before.before.before.before.before in
+    let n = thirteen k (areas-yes c.before.before.before.before.before) (sizes c.before false c.if-not-sides_fit-outer_fits.true) in
     (sym n, sym (kept k 12 n))
 
 pub overflow_mul-aw : goal.overflow_mul-aw
-overflow_mul-aw c = let e = c in omega (arith, area_small _ (each-area e.before.before.before.before.before).0)
+overflow_mul-aw c = omega (arith, area_small _ (each-area c.before.before.before.before.before).0)
 
 pub overflow_mul-rw : goal.overflow_mul-rw
-overflow_mul-rw c = let e = c in omega (arith, area_small _ (each-area e.before.before.before.before.before).1)
+overflow_mul-rw c = omega (arith, area_small _ (each-area c.before.before.before.before.before).1)
 
 pub overflow_mul-ow : goal.overflow_mul-ow
-overflow_mul-ow c = let e = c in omega (arith, area_small _ (each-area e.before.before.before.before.before).2)
+overflow_mul-ow c = omega (arith, area_small _ (each-area c.before.before.before.before.before).2)
 
 pub returns-then-not-avg-aw : goal.returns-then-not-avg-aw
 returns-then-not-avg-aw c =
-    let q = c in
-    let e = q in
-    let k = the_call e.before.before.before.before.before.before.before.before.before.before in
-    let n = twelve k (areas-yes e.before.before.before.before.before.before) (sizes-yes q.before) (slices-no c) in
+    let k = the_call c.before.before.before.before.before.before.before.before.before.before in
+    let n = twelve k (areas-yes c.before.before.before.before.before.before) (sizes-yes c.before) (slices-no c) in
     (sym n, sym (kept k 11 n))
 
 pub returns : goal.returns
 unfolding squeeze_of
 returns c =
-    let f = c in
-    let q = f in
-    let e = q in
-    let k = the_call e.before.before.before.before.before.before.before.before.before.before.before.before.before in
-    let n = none k (areas-yes e.before.before.before.before.before.before.before.before.before) (sizes-yes q.before.before.before.before) (slices-yes f.before.before.before) in
-    let fits = fitting_fits _ _ _ k.avg k.res k.next k.prev k.out (fitting k (sizes-yes q.before.before.before.before) (slices-yes f.before.before.before)) (out_length k (sizes-yes q.before.before.before.before) (slices-yes f.before.before.before)) in
+    let slices-told = c.before.before.before in
+    let sizes-told = slices-told.before in
+    let k = the_call sizes-told.before.before.before.before.before.before.before.before.before in
+    let f = sizes-yes sizes-told in
+    let g = slices-yes slices-told in
+    let n = none k (areas-yes sizes-told.before.before.before.before.before) f g in
+    let fits = fitting_fits _ _ _ k.avg k.res k.next k.prev k.out (fitting k f g) (out_length k f g) in
     (sym n, c.unsqueeze.ensures ∙ sym (made k n ∙ into_fits (squeeze_of k) k.out fits))

@@ -2,7 +2,7 @@
 use Rattle.tile.proofs.unsqueeze.Goals as goal
 
 pub returns-then-horizontal : goal.returns-then-horizontal
-returns-then-horizontal c = let q = c in rw q.if-horizontal.true c.unsqueeze_rows.ensures
+returns-then-horizontal c = rw c.if-horizontal.true c.unsqueeze_rows.ensures
 
 pub returns-else-horizontal : goal.returns-else-horizontal
-returns-else-horizontal c = let q = c in rw q.if-horizontal.false c.unsqueeze_columns.ensures
+returns-else-horizontal c = rw c.if-horizontal.false c.unsqueeze_columns.ensures

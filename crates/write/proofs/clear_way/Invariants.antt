@@ -9,7 +9,8 @@ use Rattle.write.proofs.clear_way.Given as goal
 
 abbrev pub invariant-loop-k : goal.invariant-loop-k
 invariant-loop-k l =
-    (l.k ≤ l.count) × (length l.work ≡ length l.initial.work) × Moving l.count (place_at l.widths l.heights l.homes l.slots) (λ j. get_or l.starts j 0) l.pyramid l.initial.work l.work l.k
+    (l.k ≤ l.count) × (length l.work ≡ length l.initial.work)
+    × Moving l.count (place_at l.widths l.heights l.homes l.slots) (λ j. get_or l.starts j 0) l.pyramid l.initial.work l.work l.k
 
 abbrev pub decreases-loop-k : goal.decreases-loop-k
 decreases-loop-k l = l.count - l.k

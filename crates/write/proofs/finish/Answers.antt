@@ -10,8 +10,11 @@ clear_way-requires c =
     let start = c in
     let a = start.args in
     let alike = start.requires.0 in
-    let full = start.requires.1 in
-    (full.few, omega (arith, alike.odds_length, alike.evens_length), rw alike.odds_length (laid_ranged a.count a.widths.now a.heights.now a.homes.now a.slots.now _ 0 a.count (omega arith) full.laid))
+    let full = start.requires.1 in (
+      full.few,
+      omega (arith, alike.odds_length, alike.evens_length),
+      rw alike.odds_length (laid_ranged a.count a.widths.now a.heights.now a.homes.now a.slots.now _ 0 a.count (omega arith) full.laid),
+    )
 
 pub settle-requires : goal.settle-requires
 settle-requires c =

@@ -19,7 +19,8 @@ settle_place-requires c =
     let a = start.args in
     let alike = start.requires.1 in
     let inside = start.requires.2.inside head.loop-k.k turn.loop-k-test.true in
-    let r = room a.picture.now a.pyramid.now a.work.now a.count (place_at a.widths.now a.heights.now a.homes.now a.slots.now) a.starts.now start.requires.2 alike head.loop-k.k turn.loop-k-test.true in
+    let r = room a.picture.now a.pyramid.now a.work.now a.count (place_at a.widths.now a.heights.now a.homes.now a.slots.now) a.starts.now
+    start.requires.2 alike head.loop-k.k turn.loop-k-test.true in
     (inside, omega (arith, alike.evens_length), omega (arith, alike.odds_length, head.loop-k.invariant.1))
 
 pub loop-k-preserved : goal.loop-k-preserved

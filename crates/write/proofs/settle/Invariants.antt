@@ -9,7 +9,8 @@ use Rattle.write.proofs.settle.Given as goal
 
 abbrev pub invariant-loop-k : goal.invariant-loop-k
 invariant-loop-k l =
-    (l.k ≤ l.count) × (length l.pyramid ≡ length l.initial.pyramid) × Settling l.picture l.initial.pyramid l.work l.count (place_at l.widths l.heights l.homes l.slots) l.starts l.pyramid l.k
+    (l.k ≤ l.count) × (length l.pyramid ≡ length l.initial.pyramid)
+    × Settling l.picture l.initial.pyramid l.work l.count (place_at l.widths l.heights l.homes l.slots) l.starts l.pyramid l.k
 
 abbrev pub decreases-loop-k : goal.decreases-loop-k
 decreases-loop-k l = l.count - l.k

@@ -32,8 +32,11 @@ squeeze_place-requires c =
     let turn = c in
     let head = turn in
     let p = head.requires in
-    let l = head.loop-k in
-    (alike head.before.before.before.before.before.before.before.before.before.before.before.before, p.2.inside l.k l.invariant.0 turn.loop-k-test.true, p.3 l.k l.invariant.0 turn.loop-k-test.true)
+    let l = head.loop-k in (
+      alike head.before.before.before.before.before.before.before.before.before.before.before.before,
+      p.2.inside l.k l.invariant.0 turn.loop-k-test.true,
+      p.3 l.k l.invariant.0 turn.loop-k-test.true,
+    )
 
 pub loop-k-preserved : goal.loop-k-preserved
 loop-k-preserved c =

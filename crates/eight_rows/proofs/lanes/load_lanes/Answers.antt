@@ -31,15 +31,13 @@ bounds-s-at c = inside c
 
 pub loop-k-preserved : goal.loop-k-preserved
 loop-k-preserved c =
-    let head = c in
-    let a = head.args in
-    let k = head.loop-k.k in
-    loaded_more a.s.now a.at a.stride head.loop-k.b k _ (omega arith)
+    let a = c.args in
+    let k = c.loop-k.k in
+    loaded_more a.s.now a.at a.stride c.loop-k.b k _ (omega arith)
     (back32 (get_or a.s.now (a.at + k * a.stride) (pos 0)) c.b-1.given)
-    head.loop-k.invariant
+    c.loop-k.invariant
 
 pub returns : goal.returns
 returns c =
-    let head = c in
-    let a = head.args in
-    loaded_all a.s.now a.at a.stride head.loop-k.b head.loop-k.k (omega arith) head.loop-k.invariant
+    let a = c.args in
+    loaded_all a.s.now a.at a.stride c.loop-k.b c.loop-k.k (omega arith) c.loop-k.invariant

@@ -62,15 +62,14 @@ bounds-s-o-in-loop-k-3 c = simp length-set (omega (arith, inside c.before.before
 
 pub loop-k-preserved : goal.loop-k-preserved
 loop-k-preserved c =
-    let head = c in
-    let a = head.args in
-    let k = head.loop-k.k in
+    let a = c.args in
+    let k = c.loop-k.k in
     let b1 = back32 (get_or a.a k (pos 0)) c.s-1.given in
     let b2 = back32 (get_or a.b k (pos 0)) c.s-in-loop-k-1.given in
     let b3 = back32 (get_or a.c k (pos 0)) c.s-in-loop-k-2-1.given in
     let b4 = back32 (get_or a.d k (pos 0)) c.s-in-loop-k-3-1.given in (
-      rw (b1, b2, b3, b4, head.loop-k.invariant.0) (fours_more a.s.now a.at a.stride a.a a.b a.c a.d k head.requires.1),
-      simp length-set head.loop-k.invariant.1,
+      rw (b1, b2, b3, b4, c.loop-k.invariant.0) (fours_more a.s.now a.at a.stride a.a a.b a.c a.d k c.requires.1),
+      simp length-set c.loop-k.invariant.1,
       omega arith,
     )
 
@@ -79,7 +78,6 @@ shape_of-s c = c.loop-k.invariant.1
 
 pub returns : goal.returns
 returns c =
-    let head = c in
-    let a = head.args in
-    let e : head.loop-k.k ≡ 8 = omega arith in
-    rw e at head.loop-k.invariant.0 ∙ fours_all a.s.now a.at a.stride a.a a.b a.c a.d
+    let a = c.args in
+    let e : c.loop-k.k ≡ 8 = omega arith in
+    rw e at c.loop-k.invariant.0 ∙ fours_all a.s.now a.at a.stride a.a a.b a.c a.d

@@ -38,15 +38,13 @@ bounds-s-at c = omega (arith, inside c.before, c.loop-k.invariant.1)
 
 pub loop-k-preserved : goal.loop-k-preserved
 loop-k-preserved c =
-    let head = c in
-    let a = head.args in
-    let k = head.loop-k.k in
+    let a = c.args in
+    let k = c.loop-k.k in
     let x = back32 (get_or a.b k (pos 0)) c.s-1.given in
-    (rw (x, add-one, head.loop-k.invariant.0) refl, simp length-set head.loop-k.invariant.1, omega arith)
+    (rw (x, add-one, c.loop-k.invariant.0) refl, simp length-set c.loop-k.invariant.1, omega arith)
 
 pub returns : goal.returns
 unfolding with_lanes
 returns c =
-    let head = c in
-    let e : head.loop-k.k ≡ 8 = omega arith in
-    rw e at head.loop-k.invariant.0
+    let e : c.loop-k.k ≡ 8 = omega arith in
+    rw e at c.loop-k.invariant.0

@@ -19,39 +19,33 @@ bounds-out-n c = simp length-set (omega (arith, c.requires))
 pub returns-then-n-avg : goal.returns-then-n-avg
 returns-then-n-avg c =
     λ prev.
-    let told = c in
-    let pair = told.unsqueeze-p in
-    let next = told.last_next in
-    let taken = told in
-    let start = taken in
-    let a = start.args in
+    let pair = c.unsqueeze-p in
+    let next = c.last_next in
+    let a = c.args in
     let i = length a.res.now - 1 in
-    let b1 = back32 (get_or a.avg.now i (pos 0)) taken.unsqueeze-arg-1.given in
-    let b2 = back32 (get_or a.res.now i (pos 0)) taken.unsqueeze-arg-2-1.given in
+    let b1 = back32 (get_or a.avg.now i (pos 0)) c.unsqueeze-arg-1.given in
+    let b2 = back32 (get_or a.res.now i (pos 0)) c.unsqueeze-arg-2-1.given in
     let b3 = back32 next.result next.type_inv in
-    let b4 = to_z-of_z start.ranges.prior in
+    let b4 = to_z-of_z c.ranges.prior in
     row_end_tail (length a.avg.now) (length a.res.now) a.avg.now a.res.now a.next.now prev a.out.now next.result a.prior _ _ i
-    (omega arith) start.requires.1 start.requires.3 next.ensures
-    (back32 pair.result.first told.struct_told-1.given.0.1 ∙ rw (b1, b2, b3, b4) at pair.ensures.0)
+    (omega arith) c.requires.1 c.requires.3 next.ensures
+    (back32 pair.result.first c.struct_told-1.given.0.1 ∙ rw (b1, b2, b3, b4) at pair.ensures.0)
     (back32 pair.result.second c.struct_told-2-1.given.1.0.1 ∙ rw (b1, b2, b3, b4) at pair.ensures.1)
     _ c.if-n-avg.true (back32 (get_or a.avg.now (length a.res.now) (pos 0)) c.out-1.given)
 
 pub returns-else-n-avg : goal.returns-else-n-avg
 returns-else-n-avg c =
     λ prev.
-    let told = c in
-    let pair = told.unsqueeze-p in
-    let next = told.last_next in
-    let taken = told in
-    let start = taken in
-    let a = start.args in
+    let pair = c.unsqueeze-p in
+    let next = c.last_next in
+    let a = c.args in
     let i = length a.res.now - 1 in
-    let b1 = back32 (get_or a.avg.now i (pos 0)) taken.unsqueeze-arg-1.given in
-    let b2 = back32 (get_or a.res.now i (pos 0)) taken.unsqueeze-arg-2-1.given in
+    let b1 = back32 (get_or a.avg.now i (pos 0)) c.unsqueeze-arg-1.given in
+    let b2 = back32 (get_or a.res.now i (pos 0)) c.unsqueeze-arg-2-1.given in
     let b3 = back32 next.result next.type_inv in
-    let b4 = to_z-of_z start.ranges.prior in
+    let b4 = to_z-of_z c.ranges.prior in
     row_end (length a.avg.now) (length a.res.now) a.avg.now a.res.now a.next.now prev a.out.now next.result a.prior _ _ i
-    (omega arith) start.requires.1 start.requires.3 next.ensures
-    (back32 pair.result.first told.struct_told-1.given.0.1 ∙ rw (b1, b2, b3, b4) at pair.ensures.0)
+    (omega arith) c.requires.1 c.requires.3 next.ensures
+    (back32 pair.result.first c.struct_told-1.given.0.1 ∙ rw (b1, b2, b3, b4) at pair.ensures.0)
     (back32 pair.result.second c.struct_told-2-1.given.1.0.1 ∙ rw (b1, b2, b3, b4) at pair.ensures.1)
     c.if-n-avg.false

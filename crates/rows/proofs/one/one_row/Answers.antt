@@ -11,26 +11,22 @@ use Rattle.rows.proofs.one.one_row.Goals as goal
 
 pub returns-then-n-eq0 : goal.returns-then-n-eq0
 returns-then-n-eq0 c =
-    let start = c in
-    let a = start.args in
-    let e = start.requires.2 in
+    let a = c.args in
+    let e = c.requires.2 in
     let b = back32 (get_or a.avg.now 0 (pos 0)) c.out-1.given in
-    copied start.requires.0 c.if-n-eq0.true (simp length-set (omega arith))
+    copied c.requires.0 c.if-n-eq0.true (simp length-set (omega arith))
     (λ k hk _.
     rw (own_place (length a.avg.now) (length a.res.now) a.avg.now a.res.now k 0 hk)
     (get_or-set_same a.out.now 0 _ (pos 0) (omega arith) ∙ b ∙ own_average (length a.avg.now) (length a.res.now) a.avg.now a.res.now k 0 hk))
 
 pub returns : goal.returns
 returns c =
-    let pairs = c in
-    let prior = pairs in
-    let start = prior in
-    let a = start.args in
-    let b0 = back32 (get_or a.avg.now 0 (pos 0)) prior.outer_sample-arg-1.given in
-    let b1 = back32 prior.outer_sample.result prior.outer_sample.type_inv in
-    let b2 = back32 pairs.ordinary_pairs-before.result pairs.ordinary_pairs-before.type_inv in
-    put_together start.requires.0 (omega arith)
-    (row_before_lem (length a.avg.now) (length a.res.now) a.avg.now a.res.now a.next.now a.prev.now prior.outer_sample.result
-    (rw b0 at prior.outer_sample.ensures))
-    (rw b1 at pairs.ordinary_pairs-before.ensures)
+    let a = c.args in
+    let b0 = back32 (get_or a.avg.now 0 (pos 0)) c.outer_sample-arg-1.given in
+    let b1 = back32 c.outer_sample.result c.outer_sample.type_inv in
+    let b2 = back32 c.ordinary_pairs-before.result c.ordinary_pairs-before.type_inv in
+    put_together c.requires.0 (omega arith)
+    (row_before_lem (length a.avg.now) (length a.res.now) a.avg.now a.res.now a.next.now a.prev.now c.outer_sample.result
+    (rw b0 at c.outer_sample.ensures))
+    (rw b1 at c.ordinary_pairs-before.ensures)
     (rw b2 at (c.last_samples.ensures a.prev.now))

@@ -19,22 +19,19 @@ bounds-out-i-in-loop-i c = simp length-set (omega (arith, c.loop-i.invariant.0.l
 
 pub loop-i-preserved : goal.loop-i-preserved
 loop-i-preserved c =
-    let told = c in
-    let pair = told.unsqueeze-p in
-    let taken = told in
-    let head = taken in
-    let a = head.args in
-    let i = head.loop-i.i in
-    let l = head.loop-i.invariant.0.long in
-    let b1 = back32 (get_or a.avg.now i (pos 0)) taken.unsqueeze-arg-1.given in
-    let b2 = back32 (get_or a.res.now i (pos 0)) taken.unsqueeze-arg-in-loop-i-1.given in
-    let b3 = back32 (get_or a.avg.now (i + 1) (pos 0)) taken.unsqueeze-arg-in-loop-i-2-1.given in
+    let pair = c.unsqueeze-p in
+    let a = c.args in
+    let i = c.loop-i.i in
+    let l = c.loop-i.invariant.0.long in
+    let b1 = back32 (get_or a.avg.now i (pos 0)) c.unsqueeze-arg-1.given in
+    let b2 = back32 (get_or a.res.now i (pos 0)) c.unsqueeze-arg-in-loop-i-1.given in
+    let b3 = back32 (get_or a.avg.now (i + 1) (pos 0)) c.unsqueeze-arg-in-loop-i-2-1.given in
     let z : 0 + i ≡ i = omega arith in (
-      join head.requires.0 (omega arith) head.loop-i.invariant.0
+      join c.requires.0 (omega arith) c.loop-i.invariant.0
           (rw z
-          (row_ordinary (length a.avg.now) (length a.res.now) a.avg.now a.res.now head.loop-i.out (get_or a.avg.now (i + 1) (pos 0)) _ _ _ i
-          (omega arith) head.requires.0 (omega arith)
-          (back32 pair.result.first told.struct_told-1.given.0.1 ∙ rw (b1, b2, b3) at pair.ensures.0)
+          (row_ordinary (length a.avg.now) (length a.res.now) a.avg.now a.res.now c.loop-i.out (get_or a.avg.now (i + 1) (pos 0)) _ _ _ i
+          (omega arith) c.requires.0 (omega arith)
+          (back32 pair.result.first c.struct_told-1.given.0.1 ∙ rw (b1, b2, b3) at pair.ensures.0)
           (back32 pair.result.second c.struct_told-in-loop-i-1.given.1.0.1 ∙ rw (b1, b2, b3) at pair.ensures.1)
           refl)),
       omega arith,
@@ -45,7 +42,6 @@ shape_of-out c = c.loop-i.invariant.0.long
 
 pub returns : goal.returns
 returns c =
-    let head = c in
-    let a = head.args in
-    let e : head.loop-i.i ≡ a.to = omega arith in
-    rw (e, to_z-of_z head.ranges.prior) at head.loop-i.invariant.0
+    let a = c.args in
+    let e : c.loop-i.i ≡ a.to = omega arith in
+    rw (e, to_z-of_z c.ranges.prior) at c.loop-i.invariant.0
