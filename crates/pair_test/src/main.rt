@@ -1,16 +1,21 @@
 // Replays pairs of the published Rust (tests/pairs.py made `stdin` of its
 // answers): each pair back in both forms and forward again, and eight pairs at
 // a time as one block. Prints how many there were and how many came out right.
+#![tactic(auto)]
+
 ghost use Rattle.std.specs.Prelude.{◌<◌};
 
-use libc::STDIN_FILENO;
 use samples::sample_at;
+use std::io;
 
 // A pair of `stdin`: average, residual, next average, previous output, first
 // and second, four bytes each.
 const PAIR: usize = 24;
 
 const BLOCK: usize = 8 * PAIR;
+
+// Room for the whole input.
+const INPUT: usize = 524_288;
 
 // Whether the pair that starts at `at` comes out right both ways.
 fn pair_agrees(bytes: &[u8], at: usize) -> bool {
@@ -87,10 +92,16 @@ fn right_of(bytes: &[u8], size: usize) -> u64
     right
 }
 
-fn main() {
-    let mut buffer = [0u8; 524288];
-    let n = io::read_full(STDIN_FILENO, &mut buffer);
+// An array of this size has a function of its own: a proof that meets the zeros
+// themselves counts them one by one.
+fn input_room() -> [u8; INPUT] {
+    [0; INPUT]
+}
+
+fn main(rt: HostRuntime) -> io::Result<()> {
+    let mut buffer = input_room();
+    let n = reading::read_full(&mut rt.reader(), &mut buffer)?;
     let bytes = &buffer[..n];
-    replay::say(b"pairs ", (n / PAIR) as u64, right_of(bytes, PAIR));
-    replay::say(b"blocks ", (n / BLOCK) as u64, right_of(bytes, BLOCK));
+    replay::say(&rt, "pairs ", (n / PAIR) as u64, right_of(bytes, PAIR))?;
+    replay::say(&rt, "blocks ", (n / BLOCK) as u64, right_of(bytes, BLOCK))
 }

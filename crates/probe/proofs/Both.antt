@@ -1,9 +1,8 @@
 -- Two stores into a slice of two samples, and none into any other (`both` of specs/Probe.antt). Assumes nothing.
-use mathlib.Core.Path.{◌≡◌, refl, sym}
+use mathlib.Core.Path.{◌≡◌}
 use mathlib.Core.List.{List, [], ◌∷◌}
 use native.Mathlib.Omega.{arith}
-use Prim.Native.Nat.{ℕ}
-use borrow.Author.Tests.{eq-eqb, ne_eqb}
+use borrow.Author.Tests.{ne_eqb}
 use lib.IntN.{ℤ}
 use lib.ListN.{length, set}
 use Rattle.probe.specs.Probe.{both}

@@ -1,14 +1,14 @@
 -- Eight samples copied out of a list and into one, sample by sample: `paste d at s i` of lib.Seq has the first i samples of s over d from
 -- `at` on. One more turn, and all eight. Assumes nothing.
 use mathlib.Core.Path.{◌≡◌, sym, ap, ◌∙◌}
-use mathlib.Core.List.{List, ◌++◌, append-nil}
+use mathlib.Core.List.{List, append-nil}
 use Prim.Native.Nat.{ℕ, ◌+◌, ◌<◌, ◌≤◌}
 use native.Mathlib.Omega.{arith}
 use native.Mathlib.Numerals.{add-one}
 use lib.IntN.{ℤ, pos}
 use lib.ListN.{length, get_or, set, take, drop, length-drop, drop_of_length-le}
 use lib.Seq.{paste, paste-suc, get_or-drop, take_all}
-use borrow.Author.Tests.{le-leb, lt-leb}
+use borrow.Author.Tests.{le-leb}
 use Rattle.probe.specs.Probe.{block_at, with_block}
 
 -- ---- out of s, from `at` on, into b

@@ -1,0 +1,28 @@
+-- `probe_squeeze` meets its contract: nothing for another length than two, else average and residual (proofs/Both.antt). Assumes nothing.
+use mathlib.Core.Path.{◌∙◌}
+use mir.Facts.{to_z-of_z}
+use Rattle.arith32.proofs.Whole.{back32}
+use Rattle.pair.specs.Pair as Pair
+use Rattle.probe.specs.Probe.{squeezed}
+use Rattle.probe.proofs.Both.{kept, written}
+use Rattle.probe.proofs.probe_squeeze.Goals as goal
+
+pub returns-then-out-ne2 : goal.returns-then-out-ne2
+unfolding squeezed
+returns-then-out-ne2 c = kept _ _ c.args.out.now c.if-out-ne2.true
+
+pub returns : goal.returns
+unfolding squeezed Pair.residual
+returns c =
+    let s = c.squeeze-s in
+    let start = c in
+    let x = to_z-of_z start.ranges.first in
+    let y = to_z-of_z start.ranges.second in
+    let a = back32 s.result.average c.struct_told-1.given.0.1 in
+    let d = back32 s.result.difference c.struct_told-2-1.given.1.0.1 in
+    let ea = rw (x, y) at s.ensures.0 in
+    let ed = rw (x, y) at s.ensures.1 in
+    written start.args.out.now c.if-out-ne2.false
+    (a ∙ ea)
+    (back32 c.residual-residual.result c.residual-residual.type_inv
+    ∙ rw (a, d, ea, ed, to_z-of_z start.ranges.next, to_z-of_z start.ranges.prev) at c.residual-residual.ensures)

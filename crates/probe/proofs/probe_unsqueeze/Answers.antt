@@ -1,0 +1,24 @@
+-- `probe_unsqueeze` meets its contract: nothing for another length than two, else the pair (proofs/Both.antt). Assumes nothing.
+use mathlib.Core.Path.{◌∙◌}
+use mir.Facts.{to_z-of_z}
+use Rattle.arith32.proofs.Whole.{back32}
+use Rattle.probe.specs.Probe.{unsqueezed}
+use Rattle.probe.proofs.Both.{kept, written}
+use Rattle.probe.proofs.probe_unsqueeze.Goals as goal
+
+pub returns-then-out-ne2 : goal.returns-then-out-ne2
+unfolding unsqueezed
+returns-then-out-ne2 c = kept _ _ c.args.out.now c.if-out-ne2.true
+
+pub returns : goal.returns
+unfolding unsqueezed
+returns c =
+    let p = c.unsqueeze-p in
+    let start = c in
+    let a = to_z-of_z start.ranges.avg in
+    let r = to_z-of_z start.ranges.res in
+    let n = to_z-of_z start.ranges.next in
+    let v = to_z-of_z start.ranges.prev in
+    written start.args.out.now c.if-out-ne2.false
+    (back32 p.result.first c.struct_told-1.given.0.1 ∙ rw (a, r, n, v) at p.ensures.0)
+    (back32 p.result.second c.struct_told-2-1.given.1.0.1 ∙ rw (a, r, n, v) at p.ensures.1)

@@ -1,0 +1,51 @@
+-- `store_block` meets its contract: nothing where the slice is too short, else eight turns of a copy (proofs/Copies.antt). Assumes nothing.
+use mathlib.Core.Path.{refl}
+use Prim.Native.Nat.{◌+◌, ◌<◌}
+use native.Mathlib.Omega.{arith}
+use borrow.Author.Rules.{rules}
+use borrow.Author.Tests.{lt-leb}
+use lib.IntN.{pos}
+use lib.ListN.{length, get_or, length-set}
+use lib.Seq.{paste-zero}
+use Rattle.arith32.proofs.Whole.{back32}
+use Rattle.probe.specs.Probe.{with_block}
+use Rattle.probe.proofs.Copies.{store_more, store_all}
+use Rattle.probe.proofs.store_block.Goals as goal
+
+pub returns-then-s-at : goal.returns-then-s-at
+unfolding with_block
+returns-then-s-at c =
+    let a = c.args in
+    let short : length a.s.now < a.at + 8 = omega arith in
+    rw (lt-leb (a.at + 8) (length a.s.now) short)
+
+pub returns-then-s-at-lt8 : goal.returns-then-s-at-lt8
+unfolding with_block
+returns-then-s-at-lt8 c =
+    let a = c.args in
+    let short : length a.s.now < a.at + 8 = omega arith in
+    rw (lt-leb (a.at + 8) (length a.s.now) short)
+
+pub loop-i-init : goal.loop-i-init
+loop-i-init c =
+    let a = c.args in
+    (paste-zero a.s.now a.at a.b, refl, search rules, omega arith, omega arith)
+
+pub loop-i-preserved : goal.loop-i-preserved
+loop-i-preserved c =
+    let head = c in
+    let a = head.args in
+    let i = head.loop-i.i in
+    let x = back32 (get_or a.b i (pos 0)) c.s-1.given in (
+      rw x (store_more head.loop-i.s a.s.now a.b a.at i head.loop-i.invariant.0 head.loop-i.invariant.2 (omega arith) (omega arith)),
+      simp length-set head.loop-i.invariant.1,
+      head.loop-i.invariant.2,
+      omega arith,
+      omega arith,
+    )
+
+pub returns : goal.returns
+returns c =
+    let head = c in
+    let a = head.args in
+    store_all head.loop-i.s a.s.now a.b a.at head.loop-i.i head.loop-i.invariant.0 head.loop-i.invariant.2 (omega arith) (omega arith)

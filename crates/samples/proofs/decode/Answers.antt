@@ -1,0 +1,26 @@
+-- `decode` meets its contract. The loop's invariant: the first i samples are in place. Assumes nothing.
+use mathlib.Core.Path.{refl, ◌∙◌}
+use native.Mathlib.Omega.{arith}
+use borrow.Author.Rules.{rules}
+use lib.ListN.{length-set}
+use Rattle.arith32.proofs.Whole.{back32}
+use Rattle.samples.specs.Samples.{stored}
+use Rattle.samples.proofs.Holding.{holds_none, holds_set}
+use Rattle.samples.proofs.decode.Goals as goal
+
+pub loop-i-init : goal.loop-i-init
+loop-i-init c = (search rules, refl, refl, holds_none (stored c.args.bytes.now) c.args.s.now 0 0 (omega arith))
+
+pub loop-i-preserved : goal.loop-i-preserved
+loop-i-preserved c =
+    let head = c in
+    let v = c.sample_at in (
+      search rules,
+      simp length-set (omega arith),
+      simp length-set (omega arith),
+      holds_set (stored head.args.bytes.now) head.loop-i.s 0 head.loop-i.i _ head.loop-i.invariant.3 (search rules)
+          (back32 v.result v.type_inv ∙ v.ensures),
+    )
+
+pub returns : goal.returns
+returns c = λ k a b. c.loop-i.invariant.3 k a (omega arith)

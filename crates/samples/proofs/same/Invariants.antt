@@ -1,0 +1,13 @@
+-- `same` meets its contract. The loop's invariant: the first i samples are the same. Assumes nothing.
+use mathlib.Core.Path.{◌≡◌}
+use Prim.Native.Nat.{◌-◌, ◌≤◌}
+use lib.ListN.{length}
+use Rattle.samples.specs.Samples.{stored}
+use Rattle.samples.specs.Rooms.{Holds}
+use Rattle.samples.proofs.same.Given as goal
+
+abbrev pub invariant-loop-i : goal.invariant-loop-i
+invariant-loop-i l = (l.i ≤ l.i-end) × (l.i-end ≡ length l.s) × Holds (stored l.bytes) l.s 0 l.i
+
+abbrev pub decreases-loop-i : goal.decreases-loop-i
+decreases-loop-i l = l.i-end - l.i
