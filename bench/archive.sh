@@ -9,7 +9,7 @@ if [ ! -f "$old/libbefore.a" ]; then
     rm -rf "$old"
     mkdir -p "$old/tree"
     git archive "$1" | tar -x -C "$old/tree"
-    (cd "$old/tree" && rt staticlib squeeze > /dev/null 2>&1)
+    (cd "$old/tree" && tools/archive.sh squeeze > /dev/null 2>&1)
     cp "$old/tree/target/staticlib/libsqueeze.a" "$old/libbefore.a"
     for name in tile rebuild write grid_rect listing layout record; do
         objcopy --redefine-sym "squeeze_$name=before_$name" "$old/libbefore.a"

@@ -4,7 +4,7 @@
 set -eu
 cd "$(dirname "$0")/.."
 old=$(bench/archive.sh "$1")
-rt staticlib squeeze > /dev/null 2>&1
+tools/archive.sh squeeze > /dev/null 2>&1
 rustc --edition 2021 -O -L target/staticlib -L "$old" -o target/bench/before bench/before.rs
 echo "before: $(basename "$old")"
 target/bench/before "${2:-1}"

@@ -6,7 +6,7 @@ set -eu
 here=$(pwd)
 cd "$(dirname "$0")/.."
 if [ $# -eq 0 ]; then
-    rt staticlib squeeze > /dev/null
+    tools/archive.sh squeeze > /dev/null
     set -- "$PWD/target/staticlib/libsqueeze.a"
 fi
 mkdir -p target/bench

@@ -4,7 +4,7 @@
 set -eu
 cd "$(dirname "$0")/.."
 calls=${1:-20000}
-rt staticlib probe > /dev/null
+tools/archive.sh probe > /dev/null
 build=target/bench
 mkdir -p "$build"
 rustc --edition 2021 -O -L target/staticlib -o "$build/pair" bench/pair.rs

@@ -4,7 +4,7 @@
 # work slice and the last copies count as outside. Needs cc and perf.
 set -eu
 cd "$(dirname "$0")/.."
-rt staticlib squeeze > /dev/null 2>&1
+tools/archive.sh squeeze > /dev/null 2>&1
 mkdir -p target/bench
 cc -std=gnu99 -O2 -I include bench/small.c target/staticlib/libsqueeze.a -o target/bench/small
 target/bench/small

@@ -3,7 +3,7 @@
 # usage: bench/tile.sh [SECONDS-PER-ROW]   (needs rustc beside the toolchain)
 set -eu
 cd "$(dirname "$0")/.."
-rt staticlib squeeze > /dev/null 2>&1
+tools/archive.sh squeeze > /dev/null 2>&1
 mkdir -p target/bench
 rustc --edition 2021 -O -L target/staticlib -o target/bench/tile bench/tile.rs
 target/bench/tile "${1:-1}"

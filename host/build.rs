@@ -42,31 +42,41 @@ fn ready_archive(dir: PathBuf) -> PathBuf {
 fn make_archive() -> PathBuf {
     let host = PathBuf::from(env::var_os("CARGO_MANIFEST_DIR").expect("set by cargo"));
     let top = host.parent().expect("host/ lies in the repository");
-    println!("cargo:rerun-if-changed=../crates");
+    watch_sources(&top.join("crates"));
     println!("cargo:rerun-if-changed=../crates.txt");
-    run_rt(top);
+    run_archive(top);
     let dir = top.join("target").join("staticlib");
     if !dir.join("libsqueeze.a").is_file() {
-        panic!("`rt staticlib squeeze` left no target/staticlib/libsqueeze.a");
+        panic!("tools/archive.sh left no target/staticlib/libsqueeze.a");
     }
     dir
 }
 
-fn run_rt(top: &Path) {
-    let answer = Command::new("rt")
-        .args(["staticlib", "squeeze"])
-        .current_dir(top)
+/// The folders of sources, and not what the toolchain keeps beside them.
+fn watch_sources(crates: &Path) {
+    let folders = std::fs::read_dir(crates).expect("crates/ can be read");
+    for folder in folders.flatten() {
+        for part in ["src", "specs", "proofs"] {
+            let sources = folder.path().join(part);
+            if sources.is_dir() {
+                println!("cargo:rerun-if-changed={}", sources.display());
+            }
+        }
+    }
+}
+
+fn run_archive(top: &Path) {
+    let answer = Command::new(top.join("tools").join("archive.sh"))
+        .arg("squeeze")
         .output();
     let output = match answer {
         Ok(output) => output,
-        Err(error) => panic!(
-            "`rt` can't be started ({error}). Install the Rattle toolchain, or set \
-             SQUEEZE_ARCHIVE_DIR to a directory with a ready libsqueeze.a"
-        ),
+        Err(error) => panic!("tools/archive.sh can't be started ({error})"),
     };
     if !output.status.success() {
         panic!(
-            "`rt staticlib squeeze` failed ({}):\n{}{}",
+            "tools/archive.sh failed ({}). Install the Rattle toolchain, `rt`, or set \
+             SQUEEZE_ARCHIVE_DIR to a directory with a ready libsqueeze.a\n{}{}",
             output.status,
             String::from_utf8_lossy(&output.stdout),
             String::from_utf8_lossy(&output.stderr)

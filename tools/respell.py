@@ -181,7 +181,7 @@ def main(argv):
                 lines.append(outside_strings(line, rt_code))
         return "\n".join(lines)
 
-    pages = {n: turned(n) for n in TURNED_ALREADY} | rows
+    pages = {n: turned(n) for n in TURNED_ALREADY} | {n: t for n, t in rows.items() if re.search("[A-Z-]", n)}
     pages = {n: rows.get(t, t) if "-" in n else t for n, t in pages.items()}
     page_word = swap(pages)
 

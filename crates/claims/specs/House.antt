@@ -3,7 +3,7 @@
 -- specs/Demands.antt; the longest default plans and the room of records in specs/Strips.antt. Here stand what records without a version keep, what a
 -- version says of the default plan and of the preview, the field in every record, and a version as a number in every call. Statements only;
 -- proofs/House.antt proves them.
-use Rattle.std.specs.Prelude.{◌≡◌, Bool, true, false, cond, ◌&&◌, not, List, [], ◌∷◌, ◌++◌, ℕ, ◌≤◌, leb, ℤ, pos, length, drop, replicate}
+use Rattle.std.specs.Prelude.{◌≡◌, Bool, true, false, cond, ◌&&◌, List, [], ◌∷◌, ◌++◌, ℕ, ◌≤◌, leb, ℤ, pos, length, drop, replicate}
 use Rattle.numbers.specs.Numbers.{refused_outside, refused_field, refused_count, refused_form}
 use Rattle.channel.specs.declared.Channel.{Channel}
 use Rattle.list.specs.declared.ChannelList.{ChannelList}

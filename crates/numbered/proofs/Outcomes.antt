@@ -1,7 +1,7 @@
 -- What a record from numbers comes to (`answer`, `record_after` and `length_after` of specs/Numbered.antt), by the answers that the code has found on
 -- the way: questions 3 to 11, then 14, then what the record's writer gave. Assumes nothing.
 use mathlib.Core.Path.{◌≡◌, refl, sym, ap, ◌∙◌}
-use mathlib.Core.Bool.{Bool, true, false, not, cond, ◌&&◌, and-true, and-eq-true_iff}
+use mathlib.Core.Bool.{Bool, true, false, cond, ◌&&◌, and-true, and-eq-true_iff}
 use mathlib.Core.List.{List, [], ◌∷◌, ◌++◌}
 use Prim.Native.Nat.{ℕ, ◌≤◌}
 use native.Mathlib.Omega.{arith}

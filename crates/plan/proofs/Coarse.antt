@@ -17,7 +17,6 @@ use Rattle.plan.specs.declared.CoarseCount.{CoarseCount}
 use Rattle.plan.specs.Version.{is_version, rule_of}
 use Rattle.plan.specs.Default as Default
 use Rattle.plan.specs.Default.{leading, meta_count}
-use Rattle.plan.specs.Coarse as Coarse
 use Rattle.plan.specs.Coarse.{is_small, is_coarse, coarse_count, coarse_of, OthersSmall, IsCount, CountLaws}
 
 -- ---- the leading channels that pass a test

@@ -1,6 +1,5 @@
 -- `channel_numbers` meets its contract, by computation. Assumes nothing.
 use mathlib.Core.Path.{refl}
-use borrow.Author.Rules.{rules}
 use Rattle.layout.specs.Layout.{channel_numbers}
 use Rattle.layout.proofs.channel_numbers.Goals as goal
 

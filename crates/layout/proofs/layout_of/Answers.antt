@@ -6,8 +6,6 @@ use Prim.Native.Nat.{◌*◌}
 use native.Mathlib.Omega.{arith}
 use lib.Dec.{leb}
 use lib.ListN.{length}
-use borrow.Author.Rules.{rules}
-use borrow.Author.Tests.{not-true, not-false}
 use Rattle.list.specs.Lists.{channels, origins}
 use Rattle.plan.specs.Steps as S
 use Rattle.layout.specs.Layout.{Rows, rows, rows_of, layout_of, all_fit, all_over}
@@ -24,39 +22,27 @@ After-struct_known-3-1 = Lts.After-struct_known3 tie.the-claims reads.Pre reads.
 pub returns-then-form-ne0 : goal.returns-then-form-ne0
 returns-then-form-ne0 c =
     let f = c.read_form-form in
-    let s = c in
-    refused s.args.bytes.now _ f.result.answer (form_refused s.args.bytes.now f.result f.ensures c.if-form-ne0.true) c.if-form-ne0.true
+    refused c.args.bytes.now _ f.result.answer (form_refused c.args.bytes.now f.result f.ensures c.if-form-ne0.true) c.if-form-ne0.true
 
 pub returns-then-rewritten-ne0 : goal.returns-then-rewritten-ne0
 returns-then-rewritten-ne0 c =
-    let r = c in
-    let e = r in
-    let f = e.read_form-form in
-    let s = c in
-    refused s.args.bytes.now _ r.rewrite-rewritten.result.answer
-    (plan_judged s.args.bytes.now f.result f.ensures e.if-form-ne0.false r.rewrite-rewritten.result r.rewrite-rewritten.ensures) c.if-rewritten-ne0.true
+    let f = c.read_form-form in
+    refused c.args.bytes.now _ c.rewrite-rewritten.result.answer
+    (plan_judged c.args.bytes.now f.result f.ensures c.if-form-ne0.false c.rewrite-rewritten.result c.rewrite-rewritten.ensures) c.if-rewritten-ne0.true
 
 pub overflow_mul-room-2 : goal.overflow_mul-room-2
 overflow_mul-room-2 c =
-    let r = c in
-    let e = r in
-    let f = e.read_form-form in
-    let few = list_few _ f.result f.ensures e.if-form-ne0.false r.rewrite-rewritten.result r.rewrite-rewritten.ensures c.if-rewritten-ne0.false in
+    let f = c.read_form-form in
+    let few = list_few _ f.result f.ensures c.if-form-ne0.false c.rewrite-rewritten.result c.rewrite-rewritten.ensures c.if-rewritten-ne0.false in
     record { fits = omega arith }
-
 
 -- the rows that the code finds are the record's
 rows-here : (c : After-struct_known-3-1) → let m = c.meant_steps.result in
-    let r = c in
-    rows_of r.read_form-form.result.version (S.steps m.steps) (channels r.rewrite-rewritten.result.list) (origins r.rewrite-rewritten.result.list)
-    ≡ layout_of r.args.bytes.now
+    rows_of c.read_form-form.result.version (S.steps m.steps) (channels c.rewrite-rewritten.result.list) (origins c.rewrite-rewritten.result.list)
+    ≡ layout_of c.args.bytes.now
 rows-here c =
-    let m = c in
-    let r = m in
-    let e = r in
-    let f = e.read_form-form in
-    rows_are _ f.result f.ensures e.if-form-ne0.false r.rewrite-rewritten.result r.rewrite-rewritten.ensures m.if-rewritten-ne0.false m.meant_steps.result m.meant_steps.ensures.value m.meant_steps.ensures.room
-
+    let f = c.read_form-form in
+    rows_are _ f.result f.ensures c.if-form-ne0.false c.rewrite-rewritten.result c.rewrite-rewritten.ensures c.if-rewritten-ne0.false c.meant_steps.result c.meant_steps.ensures.value c.meant_steps.ensures.room
 
 -- and their room is asked as question 14 asks it
 room-here : (c : After-struct_known-3-1) (b : Bool) → let a = c.args in
@@ -65,47 +51,30 @@ room-here : (c : After-struct_known-3-1) (b : Bool) → let a = c.args in
     (((leb 4 (length a.counts.now) && leb (3 * m.count) (length a.steps.now)) && leb (4 * l.count) (length a.channels.now)) && leb l.count (length a.origins.now)) ≡ b
     → all_fit (layout_of a.bytes.now) (rows a.counts.now a.steps.now a.channels.now a.origins.now) ≡ b
 room-here c b h =
-    let m = c in
-    let r = m in
-    let e = r in
-    let f = e.read_form-form in
-    let few = list_few _ f.result f.ensures e.if-form-ne0.false r.rewrite-rewritten.result r.rewrite-rewritten.ensures m.if-rewritten-ne0.false in
-    rw (← (rows-here c)) (sym (room_is _ m.meant_steps.result.steps r.rewrite-rewritten.result.list m.meant_steps.ensures.room few _) ∙ h)
+    let f = c.read_form-form in
+    let few = list_few _ f.result f.ensures c.if-form-ne0.false c.rewrite-rewritten.result c.rewrite-rewritten.ensures c.if-rewritten-ne0.false in
+    rw (← (rows-here c)) (sym (room_is _ c.meant_steps.result.steps c.rewrite-rewritten.result.list c.meant_steps.ensures.room few _) ∙ h)
 
 pub returns-then-not-room : goal.returns-then-not-room
 returns-then-not-room c =
-    let k = c in
-    let r = k in
-    let e = r in
-    let f = e.read_form-form in
-    let z = read_accepted _ f.result f.ensures e.if-form-ne0.false r.rewrite-rewritten.result r.rewrite-rewritten.ensures k.if-rewritten-ne0.false in
-    short _ _ z (room-here k.before.before false c.if-not-room.true)
+    let f = c.read_form-form in
+    let z = read_accepted _ f.result f.ensures c.if-form-ne0.false c.rewrite-rewritten.result c.rewrite-rewritten.ensures c.if-rewritten-ne0.false in
+    short _ _ z (room-here c.before.before false c.if-not-room.true)
 
 pub put_layout-requires : goal.put_layout-requires
 put_layout-requires c =
-    let o = c in
-    let k = o in
-    let m = k in
-    let r = m in
-    let e = r in
-    let f = e.read_form-form in (
-      version_known _ f.result f.ensures e.if-form-ne0.false r.rewrite-rewritten.result r.rewrite-rewritten.ensures m.if-rewritten-ne0.false,
-      m.meant_steps.ensures.room,
-      list_few _ f.result f.ensures e.if-form-ne0.false r.rewrite-rewritten.result r.rewrite-rewritten.ensures m.if-rewritten-ne0.false,
-      rw (rows-here k.before.before.before.before.before.before.before) (room-here k.before.before.before.before.before.before.before true o.if-not-room.false),
+    let f = c.read_form-form in (
+      version_known _ f.result f.ensures c.if-form-ne0.false c.rewrite-rewritten.result c.rewrite-rewritten.ensures c.if-rewritten-ne0.false,
+      c.meant_steps.ensures.room,
+      list_few _ f.result f.ensures c.if-form-ne0.false c.rewrite-rewritten.result c.rewrite-rewritten.ensures c.if-rewritten-ne0.false,
+      rw (rows-here c.before.before.before.before.before.before.before) (room-here c.before.before.before.before.before.before.before true c.if-not-room.false),
     )
 
 pub returns : goal.returns
 returns c =
-    let p = c in
-    let o = p in
-    let k = o in
-    let m = k in
-    let r = m in
-    let e = r in
-    let f = e.read_form-form in
-    let z = read_accepted _ f.result f.ensures e.if-form-ne0.false r.rewrite-rewritten.result r.rewrite-rewritten.ensures m.if-rewritten-ne0.false in
-    let a = r.args in
+    let f = c.read_form-form in
+    let z = read_accepted _ f.result f.ensures c.if-form-ne0.false c.rewrite-rewritten.result c.rewrite-rewritten.ensures c.if-rewritten-ne0.false in
+    let a = c.args in
     let out = rows a.counts.now a.steps.now a.channels.now a.origins.now in
-    let found = rows_of f.result.version (S.steps m.meant_steps.result.steps) (channels r.rewrite-rewritten.result.list) (origins r.rewrite-rewritten.result.list) in
-    done _ _ z (room-here k.before.before.before.before.before.before.before.before.before.before.before.before.before.before.before.before true o.if-not-room.false) _ (all_over_lem found out _ _ _ _ p.put_layout.ensures ∙ ap (λ (x : Rows). all_over x out) (rows-here k.before.before.before.before.before.before.before.before.before.before.before.before.before.before.before.before))
+    let found = rows_of f.result.version (S.steps c.meant_steps.result.steps) (channels c.rewrite-rewritten.result.list) (origins c.rewrite-rewritten.result.list) in
+    done _ _ z (room-here c.before.before.before.before.before.before.before.before.before.before.before.before.before.before.before.before true c.if-not-room.false) _ (all_over_lem found out _ _ _ _ c.put_layout.ensures ∙ ap (λ (x : Rows). all_over x out) (rows-here c.before.before.before.before.before.before.before.before.before.before.before.before.before.before.before.before))

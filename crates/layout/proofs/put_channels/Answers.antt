@@ -1,7 +1,7 @@
 -- `put_channels` meets its contract. The loop's invariant: the numbers so far are in the slice, and those that are left complete them
 -- (record/proofs/Placed.antt). Assumes nothing.
 use mathlib.Core.Path.{◌≡◌, ap, ◌∙◌}
-use Prim.Native.Nat.{◌+◌, ◌-◌, ◌≤◌, min}
+use Prim.Native.Nat.{◌+◌, ◌≤◌, min}
 use native.Mathlib.Omega.{arith}
 use borrow.Author.Rules.{rules}
 use lib.ListN.{length}
@@ -9,7 +9,7 @@ use Rattle.list.specs.Lists.{max_channels, channel_at, channels}
 use Rattle.list.proofs.Channels.{channels_all}
 use Rattle.record.specs.Bytes.{joined}
 use Rattle.numbered.specs.Numbered as Numbered
-use Rattle.record.proofs.Placed.{Putting, putting_none, putting_length, putting_all, putting_room, putting_more}
+use Rattle.record.proofs.Placed.{putting_none, putting_length, putting_all, putting_room, putting_more}
 use Rattle.layout.specs.Layout.{channel_numbers, all_channels}
 use Rattle.layout.proofs.Fronts.{placed_front}
 use Rattle.layout.proofs.put_channels.Goals as goal
@@ -29,7 +29,6 @@ loop-k-init c =
     let n : g.list.count ≡ min g.list.count max_channels = omega (arith, c.requires.0) in
     putting_none channel_numbers (channel_at g.list) _ _ _ _ (omega (arith, c.requires.1)) (ap (joined channel_numbers) (channels_all g.list g.list.count n))
 
-
 -- the turn of the loop in which a channel's numbers were made
 abbrev turn : After-channel_numbers-numbers → In-loop-k
 turn f = f.before.before.before.before.before.before
@@ -41,43 +40,33 @@ made f =
     let q = (turn f) in
     f.channel_numbers-numbers.ensures ∙ ap channel_numbers {y = channel_at q.args.list q.loop-k.k} f.entry_of-c.ensures
 
-room : (c : goal.After-put_numbers-arg-1) → let f = c in
-    (turn f.before.before).loop-k.at + length f.channel_numbers-numbers.result ≤ length (turn f.before.before).loop-k.out
+room : (c : goal.After-put_numbers-arg-1) → (turn c.before.before).loop-k.at + length c.channel_numbers-numbers.result ≤ length (turn c.before.before).loop-k.out
 room c =
-    let f = c in
-    let q = (turn f.before.before) in
+    let q = (turn c.before.before) in
     putting_room channel_numbers (channel_at q.args.list) _ _ 0 _ (omega (arith, q.requires.1))
-    _ _ _ q.loop-k.invariant (turn f.before.before).loop-k-test.true _ (made f.before.before)
+    _ _ _ q.loop-k.invariant (turn c.before.before).loop-k-test.true _ (made c.before.before)
 
 pub put_numbers-requires : goal.put_numbers-requires
 put_numbers-requires c = room c
 
 pub overflow_add-at : goal.overflow_add-at
 overflow_add-at c =
-    let a = c in
-    let f = a in
-    let q = (turn f.before.before.before.before.before.before) in
-    let n : length f.channel_numbers-numbers.result ≡ Numbered.channel_numbers = search rules in
+    let q = (turn c.before.before.before.before.before.before) in
+    let n : length c.channel_numbers-numbers.result ≡ Numbered.channel_numbers = search rules in
     let m = putting_length channel_numbers (channel_at q.args.list) _ _ 0 _ (omega (arith, q.requires.1)) _ _ _ q.loop-k.invariant in
-    omega (arith, room a.before.before.before.before)
+    omega (arith, room c.before.before.before.before)
 
 pub loop-k-preserved : goal.loop-k-preserved
 loop-k-preserved c =
-    let a = c in
-    let f = a in
-    let q = (turn f.before.before.before.before.before.before) in
+    let q = (turn c.before.before.before.before.before.before) in
     putting_more channel_numbers (channel_at q.args.list) _ _ 0 _ (omega (arith, q.requires.1))
-    _ _ _ q.loop-k.invariant (turn f.before.before.before.before.before.before).loop-k-test.true _ (made f.before.before.before.before.before.before) _ _ c.put_numbers.ensures (search rules)
+    _ _ _ q.loop-k.invariant (turn c.before.before.before.before.before.before).loop-k-test.true _ (made c.before.before.before.before.before.before) _ _ c.put_numbers.ensures (search rules)
 
 pub shape_of-out : goal.shape_of-out
 shape_of-out c =
-    let q = c in
-    let s = q in
-    putting_length channel_numbers (channel_at s.args.list) _ _ _ _ (omega (arith, s.requires.1)) _ _ _ q.loop-k.invariant
+    putting_length channel_numbers (channel_at c.args.list) _ _ _ _ (omega (arith, c.requires.1)) _ _ _ c.loop-k.invariant
 
 pub returns : goal.returns
 returns c =
-    let q = c in
-    let s = q in
-    putting_all channel_numbers (channel_at s.args.list) _ _ _ _ (omega (arith, s.requires.1)) _ _ _ q.loop-k.invariant c.loop-k-test.false
-    ∙ placed_front s.args.out.now (all_channels (channels s.args.list))
+    putting_all channel_numbers (channel_at c.args.list) _ _ _ _ (omega (arith, c.requires.1)) _ _ _ c.loop-k.invariant c.loop-k-test.false
+    ∙ placed_front c.args.out.now (all_channels (channels c.args.list))

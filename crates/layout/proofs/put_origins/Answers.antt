@@ -1,11 +1,8 @@
 -- `put_origins` meets its contract: the origins so far are pasted into the slice. Assumes nothing.
-use mathlib.Core.Path.{◌≡◌, refl, ◌∙◌}
-use Prim.Native.Nat.{◌-◌, ◌≤◌}
+use mathlib.Core.Path.{refl, ◌∙◌}
 use native.Mathlib.Omega.{arith}
-use borrow.Author.Rules.{rules}
-use lib.ListN.{length, length-set}
-use lib.Seq.{paste}
-use Rattle.list.specs.Lists.{max_channels, origins}
+use lib.ListN.{length-set}
+use Rattle.list.specs.Lists.{origins}
 use Rattle.list.proofs.Channels.{origins_length, origins_at}
 use Rattle.layout.proofs.Fronts.{front_none, front_more, front_all}
 use Rattle.layout.proofs.put_origins.Goals as goal
@@ -20,13 +17,12 @@ loop-k-init c =
 
 pub loop-k-preserved : goal.loop-k-preserved
 loop-k-preserved c =
-    let q = c in
-    let g = q.args in
-    let i = q.loop-k.invariant in
-    let found = origins_at g.list q.loop-k.k (omega arith) in (
+    let g = c.args in
+    let i = c.loop-k.invariant in
+    let found = origins_at g.list c.loop-k.k (omega arith) in (
       i.0,
       i.1,
-      rw i.2 (front_more g.out.now (origins g.list) q.loop-k.k _ (omega arith) (omega arith) found),
+      rw i.2 (front_more g.out.now (origins g.list) c.loop-k.k _ (omega arith) (omega arith) found),
       simp length-set i.3,
       omega arith,
       i.5,
@@ -34,7 +30,6 @@ loop-k-preserved c =
 
 pub returns : goal.returns
 returns c =
-    let q = c in
-    let g = q.args in
-    let i = q.loop-k.invariant in
-    i.2 ∙ front_all g.out.now (origins g.list) q.loop-k.k (omega arith)
+    let g = c.args in
+    let i = c.loop-k.invariant in
+    i.2 ∙ front_all g.out.now (origins g.list) c.loop-k.k (omega arith)

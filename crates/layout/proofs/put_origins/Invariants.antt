@@ -1,13 +1,9 @@
 -- `put_origins` meets its contract: the origins so far are pasted into the slice. Assumes nothing.
-use mathlib.Core.Path.{◌≡◌, refl, ◌∙◌}
+use mathlib.Core.Path.{◌≡◌}
 use Prim.Native.Nat.{◌-◌, ◌≤◌}
-use native.Mathlib.Omega.{arith}
-use borrow.Author.Rules.{rules}
-use lib.ListN.{length, length-set}
+use lib.ListN.{length}
 use lib.Seq.{paste}
 use Rattle.list.specs.Lists.{max_channels, origins}
-use Rattle.list.proofs.Channels.{origins_length, origins_at}
-use Rattle.layout.proofs.Fronts.{front_none, front_more, front_all}
 use Rattle.layout.proofs.put_origins.Given as goal
 
 abbrev pub invariant-loop-k : goal.invariant-loop-k

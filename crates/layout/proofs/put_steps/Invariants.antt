@@ -1,18 +1,10 @@
 -- `put_steps` meets its contract. The loop's invariant: the numbers so far are in the slice, and those that are left complete them
 -- (record/proofs/Placed.antt). Assumes nothing.
-use mathlib.Core.Path.{◌≡◌, ap, ◌∙◌}
-use Prim.Native.Nat.{◌+◌, ◌-◌, ◌≤◌, min}
-use native.Mathlib.Omega.{arith}
-use borrow.Author.Rules.{rules}
-use lib.ListN.{length}
-use Rattle.list.specs.Lists.{max_steps}
+use Prim.Native.Nat.{◌-◌}
 use Rattle.plan.specs.Steps as S
 use Rattle.plan.specs.Steps.{step_at}
-use Rattle.record.specs.Bytes.{joined}
-use Rattle.numbered.specs.Numbered as Numbered
-use Rattle.record.proofs.Placed.{Putting, putting_none, putting_length, putting_all, putting_room, putting_more, steps_all}
+use Rattle.record.proofs.Placed.{Putting}
 use Rattle.layout.specs.Layout.{step_numbers, all_steps}
-use Rattle.layout.proofs.Fronts.{placed_front}
 use Rattle.layout.proofs.put_steps.Given as goal
 
 abbrev pub invariant-loop-k : goal.invariant-loop-k

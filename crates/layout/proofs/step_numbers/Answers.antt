@@ -1,5 +1,4 @@
 -- `step_numbers` meets its contract. Assumes nothing.
-use borrow.Author.Rules.{rules}
 use Rattle.layout.specs.Layout.{step_numbers}
 use Rattle.layout.proofs.step_numbers.Goals as goal
 

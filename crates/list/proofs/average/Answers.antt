@@ -7,14 +7,12 @@ use Rattle.list.proofs.average.Goals as goal
 
 pub raised-requires : goal.raised-requires
 raised-requires c =
-    let a = c in
-    sided_below (λ _. c.halved-half.result) a.args.horizontal a.args.c c.with_side.result c.with_side.ensures a.requires
+    sided_below (λ _. c.halved-half.result) c.args.horizontal c.args.c c.with_side.result c.with_side.ensures c.requires
 
 pub returns : goal.returns
 unfolding Lists.average
 returns c =
-    let s = c in
-    let a = s.args in
+    let a = c.args in
     c.raised.ensures
     ∙ ap (Lists.raised a.horizontal)
-    (c.with_side.ensures ∙ sided_found halved a.horizontal a.c c.halved-half.result (c.halved-half.ensures ∙ ap halved s.side.ensures))
+    (c.with_side.ensures ∙ sided_found halved a.horizontal a.c c.halved-half.result (c.halved-half.ensures ∙ ap halved c.side.ensures))

@@ -12,7 +12,4 @@ same false false = refl
 
 pub returns : goal.returns
 returns c =
-    let m = c in
-    let e = m in
-    let f = e in
-    rw (← f.entry_of-first.ensures, ← e.entry_of-last.ensures, ← m.is_meta.ensures, ← c.is_meta-2.ensures) (same m.is_meta.result c.is_meta-2.result)
+    rw (← c.entry_of-first.ensures, ← c.entry_of-last.ensures, ← c.is_meta.ensures, ← c.is_meta-2.ensures) (same c.is_meta.result c.is_meta-2.result)

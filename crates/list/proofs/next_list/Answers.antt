@@ -30,7 +30,7 @@ abbrev here : Start → ChannelList
 here s = let a = s.args in lent a.count a.widths.now a.heights.now a.hshifts.now a.vshifts.now a.origins.now
 
 pub loop-k-init : goal.loop-k-init
-loop-k-init c = let s = c in (omega (arith, s.requires.room, channels_length (here s.before.before.before)), omega arith, filling_none _ _)
+loop-k-init c = (omega (arith, c.requires.room, channels_length (here c.before.before.before)), omega arith, filling_none _ _)
 
 -- the turn of the loop in which a channel was found
 abbrev turn : After-entry_of-from → In-loop-k
@@ -49,12 +49,10 @@ made : (c : After-entry_of-from)
     Made (start c).args.step (channels (here (start c))) q.residuals_at-residuals.result q.loop-k.k c.entry_of-from.result
 made c =
     let t = turn c in
-    let q = t in
-    let r = q.residuals_at-residuals in
-    let n = q in
+    let r = t.residuals_at-residuals in
     let s = start c in
     let j = c.source-j in
-    made_of s.args.step (here s) s.requires r.result r.ensures q.loop-k.k _ t.loop-k-test.true (ap (λ m. m + s.args.step.number) n.meant.ensures)
+    made_of s.args.step (here s) s.requires r.result r.ensures t.loop-k.k _ t.loop-k-test.true (ap (λ m. m + s.args.step.number) t.meant.ensures)
     j.result j.ensures c.entry_of-from.result c.entry_of-from.ensures
 
 -- and the origin o that was found there
@@ -62,12 +60,10 @@ origin : (c : After-entry_of-from) (o : ℕ) → o ≡ get_or (here (start c)).o
     → o ≡ get_or (stepped_origins (start c).args.step (Lists.origins (here (start c)))) (turn c).loop-k.k 0
 origin c o e =
     let t = turn c in
-    let q = t in
-    let r = q.residuals_at-residuals in
-    let n = q in
+    let r = t.residuals_at-residuals in
     let s = start c in
     let j = c.source-j in
-    origin_of s.args.step (here s) s.requires r.result r.ensures q.loop-k.k _ t.loop-k-test.true (ap (λ m. m + s.args.step.number) n.meant.ensures)
+    origin_of s.args.step (here s) s.requires r.result r.ensures t.loop-k.k _ t.loop-k-test.true (ap (λ m. m + s.args.step.number) t.meant.ensures)
     j.result j.ensures o e
 
 pub entry-c-requires : goal.entry-c-requires
@@ -82,23 +78,19 @@ overflow_step-k c =
 
 pub loop-k-preserved : goal.loop-k-preserved
 loop-k-preserved c =
-    let e = c in
-    let o = e.byte_at-origin in
-    let f = found e.before.before.before.before.before.before.before.before in
+    let o = c.byte_at-origin in
+    let f = found c.before.before.before.before.before.before.before.before in
     let t = turn f in
-    let q = t in
-    let i = q.loop-k.invariant in
-    (i.0, omega arith, filling_stored _ _ _ _ _ _ _ _ i.2 e.entry-c.result o.result (omega arith) (e.entry-c.ensures ∙ (made f).is) (origin f o.result o.ensures) c.store.ensures)
+    let i = t.loop-k.invariant in
+    (i.0, omega arith, filling_stored _ _ _ _ _ _ _ _ i.2 c.entry-c.result o.result (omega arith) (c.entry-c.ensures ∙ (made f).is) (origin f o.result o.ensures) c.store.ensures)
 
 pub returns : goal.returns
 returns c =
-    let q = c in
-    let a = q in
-    let l = here a.before.before.before.before.before in
-    let inside = a.requires.inside in
-    let n = stepped_length a.args.step (channels l) inside in
+    let l = here c.before.before.before.before.before in
+    let inside = c.requires.inside in
+    let n = stepped_length c.args.step (channels l) inside in
     let m = channels_length l in
     let p = origins_length l in
-    let s = origins_stepped a.args.step (Lists.origins l) (omega arith) in
-    filling_all _ _ q.loop-k.next_widths q.loop-k.next_heights q.loop-k.next_hshifts q.loop-k.next_vshifts q.loop-k.next_origins q.loop-k.k q.loop-k.invariant.2 _ (omega arith) (omega arith)
+    let s = origins_stepped c.args.step (Lists.origins l) (omega arith) in
+    filling_all _ _ c.loop-k.next_widths c.loop-k.next_heights c.loop-k.next_hshifts c.loop-k.next_vshifts c.loop-k.next_origins c.loop-k.k c.loop-k.invariant.2 _ (omega arith) (omega arith)
     c.loop-k-test.false

@@ -10,20 +10,18 @@ returns-then-is_meta c = sym (raised_meta c.args.horizontal c.args.c (sym c.is_m
 
 pub overflow_add-raised : goal.overflow_add-raised
 overflow_add-raised c =
-    let m = c in
-    let h = rw c.if-horizontal.true at (m.requires (sym m.is_meta.ensures ∙ c.if-is_meta.false)) in
+    let h = rw c.if-horizontal.true at (c.requires (sym c.is_meta.ensures ∙ c.if-is_meta.false)) in
     omega arith
 
 pub overflow_add-raised-else-horizontal : goal.overflow_add-raised-else-horizontal
 overflow_add-raised-else-horizontal c =
-    let m = c in
-    let h = rw c.if-horizontal.false at (m.requires (sym m.is_meta.ensures ∙ c.if-is_meta.false)) in
+    let h = rw c.if-horizontal.false at (c.requires (sym c.is_meta.ensures ∙ c.if-is_meta.false)) in
     omega arith
 
 pub returns-then-horizontal : goal.returns-then-horizontal
 unfolding Lists.raised
-returns-then-horizontal c = let m = c in rw (← m.is_meta.ensures, c.if-is_meta.false, c.if-horizontal.true)
+returns-then-horizontal c = rw (← c.is_meta.ensures, c.if-is_meta.false, c.if-horizontal.true)
 
 pub returns-else-horizontal : goal.returns-else-horizontal
 unfolding Lists.raised
-returns-else-horizontal c = let m = c in rw (← m.is_meta.ensures, c.if-is_meta.false, c.if-horizontal.false)
+returns-else-horizontal c = rw (← c.is_meta.ensures, c.if-is_meta.false, c.if-horizontal.false)

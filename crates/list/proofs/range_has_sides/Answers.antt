@@ -18,32 +18,24 @@ whole b n = omega arith
 pub returns-then-not-has_sides : goal.returns-then-not-has_sides
 returns-then-not-has_sides c =
     let t = c.has_sides in
-    let v = c in
-    let q = v in
-    let s = q in
-    let a = s.args in
+    let a = c.args in
     let e = entry_of a.widths.now a.heights.now a.hshifts.now a.vshifts.now in
-    all_stop e has_sides q.loop-k.k _ v.entry_of-c.result t.result q.loop-k-test.true v.entry_of-c.ensures t.ensures
+    all_stop e has_sides c.loop-k.k _ c.entry_of-c.result t.result c.loop-k-test.true c.entry_of-c.ensures t.ensures
     c.if-not-has_sides.true
-    ∙ q.loop-k.invariant
+    ∙ c.loop-k.invariant
     ∙ ap (λ (n : ℕ). all has_sides (table e a.step.begin n)) (whole a.step.begin a.step.number)
 
 pub loop-k-preserved : goal.loop-k-preserved
 loop-k-preserved c =
     let t = c.has_sides in
-    let v = c in
-    let q = v in
-    let s = q in
-    let a = s.args in
-    all_next (entry_of a.widths.now a.heights.now a.hshifts.now a.vshifts.now) has_sides q.loop-k.k _ v.entry_of-c.result t.result q.loop-k-test.true
-    v.entry_of-c.ensures t.ensures c.if-not-has_sides.false
-    ∙ q.loop-k.invariant
+    let a = c.args in
+    all_next (entry_of a.widths.now a.heights.now a.hshifts.now a.vshifts.now) has_sides c.loop-k.k _ c.entry_of-c.result t.result c.loop-k-test.true
+    c.entry_of-c.ensures t.ensures c.if-not-has_sides.false
+    ∙ c.loop-k.invariant
 
 pub returns : goal.returns
 returns c =
-    let q = c in
-    let s = q in
-    let a = s.args in
+    let a = c.args in
     let e = entry_of a.widths.now a.heights.now a.hshifts.now a.vshifts.now in
-    (rw (table_none e q.loop-k.k _ c.loop-k-test.false) at q.loop-k.invariant)
+    (rw (table_none e c.loop-k.k _ c.loop-k-test.false) at c.loop-k.invariant)
     ∙ ap (λ (n : ℕ). all has_sides (table e a.step.begin n)) (whole a.step.begin a.step.number)

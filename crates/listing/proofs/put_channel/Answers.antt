@@ -11,8 +11,4 @@ put_two-end-requires c = fits_two _ _ _ _ (search rules)
 pub returns : goal.returns
 unfolding channel_line
 returns c =
-    let e = c in
-    let s = e in
-    let w = s in
-    let t = w in
-    record { put = then t.put_two-end.ensures.put (then w.put_word-end.ensures (then s.put_shifts-end.ensures.put e.put_word.ensures)); room = search rules }
+    record { put = then c.put_two-end.ensures.put (then c.put_word-end.ensures (then c.put_shifts-end.ensures.put c.put_word.ensures)); room = search rules }

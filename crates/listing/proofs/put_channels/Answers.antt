@@ -1,13 +1,10 @@
 -- `put_channels` meets its contract. The loop's invariant: the lines so far are in the text (proofs/Puts.antt), with room for each. Assumes nothing.
 use mathlib.Core.Path.{ap}
-use Prim.Native.Nat.{◌+◌, ◌-◌, ◌*◌, ◌≤◌}
 use native.Mathlib.Omega.{arith}
-use borrow.Author.Rules.{rules}
 use Rattle.list.specs.Lists.{channel_at}
 use Rattle.record.specs.Bytes.{joined}
 use Rattle.listing.specs.Text.{channel_line}
-use Rattle.listing.specs.Putting.{channel_room}
-use Rattle.listing.proofs.Puts.{put_length, Lines, lines_none, lines_more, lines_all}
+use Rattle.listing.proofs.Puts.{put_length, lines_none, lines_more, lines_all}
 use Rattle.listing.proofs.Held.{channels_are}
 use Rattle.listing.proofs.put_channels.Goals as goal
 use Rattle.listing.proofs.put_channels.Lts as Lts
@@ -23,7 +20,6 @@ In-loop-k = Lts.In-loop tie.the-claims reads.Pre reads.Post goal.the-invariant-l
 pub loop-k-init : goal.loop-k-init
 loop-k-init c = let g = c.args in (lines_none channel_line (channel_at g.list) _ _ _ (omega arith), omega arith)
 
-
 -- the turn of the loop in which a channel was found
 abbrev turn : After-entry_of-c → In-loop-k
 turn c = c.before.before.before.before.before
@@ -31,26 +27,20 @@ turn c = c.before.before.before.before.before
 pub put_channel-end-requires : goal.put_channel-end-requires
 put_channel-end-requires c =
     let t = turn c.before in
-    let q = t in
-    omega (arith, put_length q.loop-k.invariant.0.put, q.loop-k.invariant.0.inside, t.loop-k-test.true, q.loop-k.invariant.1, q.requires.1)
+    omega (arith, put_length t.loop-k.invariant.0.put, t.loop-k.invariant.0.inside, t.loop-k-test.true, t.loop-k.invariant.1, t.requires.1)
 
 pub loop-k-preserved : goal.loop-k-preserved
 loop-k-preserved c =
-    let p = c in
-    let s = p in
-    let t = turn s.before.before.before.before.before in
-    let q = t in
-    let g = q.args in
-    let e = ap channel_line {y = channel_at g.list q.loop-k.k} s.entry_of-c.ensures in
-    (lines_more channel_line (channel_at g.list) _ _ _ _ _ _ q.loop-k.invariant.0 t.loop-k-test.true _ _ (rw e at p.put_channel-end.ensures.put), omega (arith, p.put_channel-end.ensures.room, q.loop-k.invariant.1))
+    let t = turn c.before.before.before.before.before in
+    let g = t.args in
+    let e = ap channel_line {y = channel_at g.list t.loop-k.k} c.entry_of-c.ensures in
+    (lines_more channel_line (channel_at g.list) _ _ _ _ _ _ t.loop-k.invariant.0 t.loop-k-test.true _ _ (rw e at c.put_channel-end.ensures.put), omega (arith, c.put_channel-end.ensures.room, t.loop-k.invariant.1))
 
 pub shape_of-text : goal.shape_of-text
 shape_of-text c = put_length c.loop-k.invariant.0.put
 
 pub returns : goal.returns
 returns c =
-    let q = c in
-    let s = q in
-    let g = s.args in
-    let all = lines_all channel_line (channel_at g.list) _ _ _ _ _ _ q.loop-k.invariant.0 c.loop-k-test.false in
-    record { put = rw (ap (joined channel_line) (channels_are g.list s.requires.0)) at all; room = omega (arith, q.loop-k.invariant.0.inside, q.loop-k.invariant.1) }
+    let g = c.args in
+    let all = lines_all channel_line (channel_at g.list) _ _ _ _ _ _ c.loop-k.invariant.0 c.loop-k-test.false in
+    record { put = rw (ap (joined channel_line) (channels_are g.list c.requires.0)) at all; room = omega (arith, c.loop-k.invariant.0.inside, c.loop-k.invariant.1) }

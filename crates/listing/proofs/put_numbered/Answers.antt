@@ -9,7 +9,4 @@ put_number-end-requires c = fits_number _ _ _ (search rules)
 
 pub returns : goal.returns
 returns c =
-    let e = c in
-    let n = e in
-    let w = n in
-    record { put = then w.put_word-end.ensures (then n.put_number-end.ensures.put e.put_word.ensures); room = search rules }
+    record { put = then c.put_word-end.ensures (then c.put_number-end.ensures.put c.put_word.ensures); room = search rules }

@@ -11,8 +11,4 @@ put_two-end-requires c = fits_two _ _ _ _ (search rules)
 pub returns : goal.returns
 unfolding step_line
 returns c =
-    let e = c in
-    let t = e in
-    let p = t in
-    let d = p in
-    record { put = then d.put_direction-end.ensures.put (then p.put_place-end.ensures.put (then t.put_two-end.ensures.put e.put_word.ensures)); room = search rules }
+    record { put = then c.put_direction-end.ensures.put (then c.put_place-end.ensures.put (then c.put_two-end.ensures.put c.put_word.ensures)); room = search rules }

@@ -1,14 +1,9 @@
 -- `put_steps` meets its contract. The loop's invariant: the lines so far are in the text (proofs/Puts.antt), with room for each. Assumes nothing.
-use mathlib.Core.Path.{ap}
 use Prim.Native.Nat.{◌+◌, ◌-◌, ◌*◌, ◌≤◌}
-use native.Mathlib.Omega.{arith}
-use borrow.Author.Rules.{rules}
 use Rattle.plan.specs.Steps.{step_at}
-use Rattle.record.specs.Bytes.{joined}
 use Rattle.listing.specs.Text.{step_line}
 use Rattle.listing.specs.Putting.{step_room}
-use Rattle.listing.proofs.Puts.{put_length, Lines, lines_none, lines_more, lines_all}
-use Rattle.listing.proofs.Held.{steps_are}
+use Rattle.listing.proofs.Puts.{Lines}
 use Rattle.listing.proofs.put_steps.Given as goal
 
 abbrev pub invariant-loop-k : goal.invariant-loop-k

@@ -10,23 +10,17 @@ put_number-end-requires c = omega (arith, two_length c.args.first c.args.second)
 
 pub put_word-end-requires : goal.put_word-end-requires
 put_word-end-requires c =
-    let m = c in
-    let p = m.put_number-end.ensures.put in
-    let a = m.args in
+    let p = c.put_number-end.ensures.put in
+    let a = c.args in
     omega (arith, two_length a.first a.second, p.ends, put_length p)
 
 pub put_number-requires : goal.put_number-requires
 put_number-requires c =
-    let w = c in
-    let m = w in
-    let p = m.put_number-end.ensures.put in
-    let q = w.put_word-end.ensures in
-    let a = m.args in
+    let p = c.put_number-end.ensures.put in
+    let q = c.put_word-end.ensures in
+    let a = c.args in
     omega (arith, two_length a.first a.second, p.ends, put_length p, q.ends, put_length q)
 
 pub returns : goal.returns
 returns c =
-    let n = c in
-    let w = n in
-    let m = w in
-    record { put = then m.put_number-end.ensures.put (then w.put_word-end.ensures n.put_number.ensures.put); room = search rules }
+    record { put = then c.put_number-end.ensures.put (then c.put_word-end.ensures c.put_number.ensures.put); room = search rules }

@@ -1,5 +1,4 @@
 -- `seven_digits` meets its contract: each entry is what `digit` states. Assumes nothing.
-use borrow.Author.Rules.{rules}
 use Rattle.listing.proofs.seven_digits.Goals as goal
 
 pub returns : goal.returns

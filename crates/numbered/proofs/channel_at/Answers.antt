@@ -1,7 +1,6 @@
 -- `channel_at` meets its contract: each shift fits its entry. Assumes nothing.
 use mathlib.Core.Path.{refl}
 use native.Mathlib.Omega.{arith}
-use borrow.Author.Rules.{rules}
 use Rattle.numbered.specs.Numbered.{channel_at}
 use Rattle.numbered.proofs.Fields.{channel_fit}
 use Rattle.numbered.proofs.channel_at.Goals as goal

@@ -1,11 +1,8 @@
 -- `channels_fit` meets its contract: the channels passed fit (proofs/Tested.antt). Assumes nothing.
 use Prim.Native.Nat.{◌-◌}
-use borrow.Author.Rules.{rules}
-use Rattle.list.proofs.Asking.{no, yes}
-use Rattle.numbered.specs.Numbered as N
 use Rattle.numbered.specs.Numbered.{channel_numbers, groups, channel_at}
 use Rattle.numbered.specs.Arrays.{shifts_fit}
-use Rattle.numbered.proofs.Tested.{Tested, tested_none, tested_more, tested_stop, tested_all}
+use Rattle.numbered.proofs.Tested.{Tested}
 use Rattle.numbered.proofs.channels_fit.Given as goal
 
 abbrev pub invariant-loop-k : goal.invariant-loop-k

@@ -1,12 +1,8 @@
 -- `flags_allowed` meets its contract: the flags passed are allowed (proofs/Tested.antt). Assumes nothing.
 use Prim.Native.Nat.{◌-◌}
-use borrow.Author.Tests.{lt-ltb, le-ltb}
-use borrow.Author.Rules.{rules}
-use Rattle.plan.specs.Steps as S
 use Rattle.plan.specs.Steps.{flags_allowed}
-use Rattle.numbered.specs.Numbered as N
 use Rattle.numbered.specs.Numbered.{step_numbers, groups, flags_at}
-use Rattle.numbered.proofs.Tested.{Tested, tested_none, tested_more, tested_stop, tested_all}
+use Rattle.numbered.proofs.Tested.{Tested}
 use Rattle.numbered.proofs.flags_allowed.Given as goal
 
 abbrev pub invariant-loop-k : goal.invariant-loop-k

@@ -1,8 +1,6 @@
 -- `judge_numbers` meets its contract: question 3 of the counts, 4 of what no field could hold, and the others as crate plan answers them for the
 -- arrays (proofs/Judged.antt). Assumes nothing.
 use mathlib.Core.Path.{◌∙◌}
-use borrow.Author.Rules.{rules}
-use borrow.Author.Tests.{not-true, not-false}
 use Rattle.list.specs.Questions as Q
 use Rattle.plan.proofs.Judged.{plan_answer}
 use Rattle.numbered.proofs.Judged.{numbers_refused₃, numbers_misfit, numbers_fit, numbers_held}
@@ -15,31 +13,23 @@ returns-then-not-count-step_count c = numbers_refused₃ _ _ _ c.if-not-count-st
 pub returns-then-not-channels_fit-flags_allowed : goal.returns-then-not-channels_fit-flags_allowed
 unfolding Q.count_allowed
 returns-then-not-channels_fit-flags_allowed c =
-    let f = c in
-    numbers_misfit f.args.version _ _ f.if-not-count-step_count.false _ _ f.channels_fit.ensures c.flags_allowed.ensures c.if-not-channels_fit-flags_allowed.true
+    numbers_misfit c.args.version _ _ c.if-not-count-step_count.false _ _ c.channels_fit.ensures c.flags_allowed.ensures c.if-not-channels_fit-flags_allowed.true
 
 pub list_of-requires : goal.list_of-requires
 unfolding Q.count_allowed
 list_of-requires c =
-    let f = c in
-    (numbers_fit f.args.version _ _ f.if-not-count-step_count.false _ _ f.channels_fit.ensures c.flags_allowed.ensures c.if-not-channels_fit-flags_allowed.false).0
+    (numbers_fit c.args.version _ _ c.if-not-count-step_count.false _ _ c.channels_fit.ensures c.flags_allowed.ensures c.if-not-channels_fit-flags_allowed.false).0
 
 pub steps_of-requires : goal.steps_of-requires
 unfolding Q.count_allowed
 steps_of-requires c =
-    let t = c in
-    let f = t in
-    (numbers_fit f.args.version _ _ f.if-not-count-step_count.false _ _ f.channels_fit.ensures t.flags_allowed.ensures t.if-not-channels_fit-flags_allowed.false).1
+    (numbers_fit c.args.version _ _ c.if-not-count-step_count.false _ _ c.channels_fit.ensures c.flags_allowed.ensures c.if-not-channels_fit-flags_allowed.false).1
 
 pub returns : goal.returns
 unfolding Q.count_allowed
 returns c =
-    let s = c in
-    let l = s in
-    let t = l in
-    let f = t in
-    let a = f.args in
-    let e = f.if-not-count-step_count.false in
+    let a = c.args in
+    let e = c.if-not-count-step_count.false in
     plan_answer _ _ _ _ c.rewrite.ensures
-    ∙ rw (l.list_of.ensures, s.steps_of.ensures)
-    (numbers_held a.version a.channels.now a.steps.now e (numbers_fit f.args.version _ _ e _ _ f.channels_fit.ensures t.flags_allowed.ensures t.if-not-channels_fit-flags_allowed.false).0)
+    ∙ rw (c.list_of.ensures, c.steps_of.ensures)
+    (numbers_held a.version a.channels.now a.steps.now e (numbers_fit c.args.version _ _ e _ _ c.channels_fit.ensures c.flags_allowed.ensures c.if-not-channels_fit-flags_allowed.false).0)

@@ -1,14 +1,9 @@
 -- `list_of` meets its contract: up to k the arrays hold the channels of the numbers and their own positions, and zeros after them. Assumes nothing.
-use mathlib.Core.Path.{sym, ◌∙◌}
 use Prim.Native.Nat.{◌-◌, ◌≤◌}
-use native.Mathlib.Omega.{arith}
-use borrow.Author.Rules.{rules}
 use lib.ListN.{length}
 use Rattle.list.specs.Lists.{max_channels, own_positions}
-use Rattle.list.proofs.Channels.{own_length, own_at}
-use Rattle.list.proofs.Filled.{Filling, filling_none, filling_stored, filling_all}
+use Rattle.list.proofs.Filled.{Filling}
 use Rattle.numbered.specs.Numbered.{channels_of}
-use Rattle.numbered.proofs.Fields.{channels_count, channel_is, channel_fits}
 use Rattle.numbered.proofs.list_of.Given as goal
 
 abbrev pub invariant-loop-k : goal.invariant-loop-k

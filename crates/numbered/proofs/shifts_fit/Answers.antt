@@ -1,6 +1,5 @@
 -- `shifts_fit` meets its contract: the two tests are those of `shifts_fit`. Assumes nothing.
 use mathlib.Core.Path.{refl}
-use borrow.Author.Rules.{rules}
 use Rattle.numbered.specs.Numbered.{channel_at}
 use Rattle.numbered.specs.Arrays.{shifts_fit}
 use Rattle.numbered.proofs.shifts_fit.Goals as goal

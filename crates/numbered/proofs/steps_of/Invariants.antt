@@ -1,11 +1,8 @@
 -- `steps_of` meets its contract: up to k the arrays hold the steps of the numbers, held to 16 bits, and zeros after them (proofs/Filling.antt).
 -- Assumes nothing.
 use Prim.Native.Nat.{◌-◌, ◌≤◌}
-use native.Mathlib.Omega.{arith}
-use borrow.Author.Rules.{rules}
 use Rattle.numbered.specs.Arrays.{held}
-use Rattle.numbered.proofs.Fields.{flags_small}
-use Rattle.numbered.proofs.Filling.{Filling, filling_none, filling_more, filling_all}
+use Rattle.numbered.proofs.Filling.{Filling}
 use Rattle.numbered.proofs.steps_of.Given as goal
 
 abbrev pub invariant-loop-k : goal.invariant-loop-k

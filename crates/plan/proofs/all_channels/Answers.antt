@@ -3,7 +3,6 @@ use mathlib.Core.Bool.{true, false}
 use mathlib.Core.Path.{refl, ap}
 use native.Mathlib.Omega.{arith}
 use lib.ListN.{length}
-use borrow.Author.Rules.{rules}
 use Rattle.plan.specs.Default.{step}
 use Rattle.plan.proofs.Parts.{vertical_first, turns_alone}
 use Rattle.plan.proofs.Appended.{counted, pushed_one, appended_after}
@@ -16,24 +15,22 @@ push-requires c =
 
 pub rounds-requires : goal.rounds-requires
 rounds-requires c =
-    let start = c in
-    let q = start.args in
+    let q = c.args in
     let tall = c.if-w-h.true in (
-      start.requires.0,
+      c.requires.0,
       omega (
         arith,
-        ap length (vertical_first q.stop q.m q.n q.w q.h c.halved.result start.requires.0 tall c.halved.ensures),
+        ap length (vertical_first q.stop q.m q.n q.w q.h c.halved.result c.requires.0 tall c.halved.ensures),
         counted _ _ _ (pushed_one _ _ (step false true q.m q.n) c.push.ensures),
-        start.requires.1,
+        c.requires.1,
       ),
     )
 
 pub returns-then-w-h : goal.returns-then-w-h
 returns-then-w-h c =
-    let start = c in
-    let q = start.args in
+    let q = c.args in
     let tall = c.if-w-h.true in
-    rw (vertical_first q.stop q.m q.n q.w q.h c.halved.result start.requires.0 tall c.halved.ensures)
+    rw (vertical_first q.stop q.m q.n q.w q.h c.halved.result c.requires.0 tall c.halved.ensures)
     (appended_after _ _ _ _ _ (pushed_one _ _ (step false true q.m q.n) c.push.ensures) c.rounds.ensures)
 
 pub rounds-requires-2 : goal.rounds-requires-2

@@ -1,6 +1,5 @@
 -- `chroma` meets its contract: each step under its own test (proofs/Parts.antt). Assumes nothing.
 use native.Mathlib.Omega.{arith}
-use borrow.Author.Rules.{rules}
 use Rattle.plan.proofs.Parts.{chroma_across, across_length, down_length, chroma_steps}
 use Rattle.plan.proofs.Appended.{counted, appended_after}
 use Rattle.plan.proofs.chroma.Goals as goal
@@ -12,14 +11,13 @@ push_if-requires c =
 
 pub push_if-requires-2 : goal.push_if-requires-2
 push_if-requires-2 c =
-    let start = c in
-    let q = start.args in
+    let q = c.args in
     omega (
       arith,
       across_length q.wanted q.m q.n q.w q.h q.second,
       down_length q.wanted q.m q.n q.w q.h q.second,
       counted _ _ (chroma_across q.wanted q.m q.n q.w q.h q.second) c.push_if.ensures,
-      start.requires,
+      c.requires,
     )
 
 pub returns : goal.returns

@@ -1,6 +1,4 @@
 -- `coarse_count` meets its contract: it judges the version and counts the leading coarse channels. Assumes nothing.
-use borrow.Author.Rules.{rules}
-use borrow.Author.Tests.{not-true, not-false}
 use Rattle.plan.specs.Coarse.{coarse_count, coarse_of}
 use Rattle.plan.specs.Counted.{is_counted}
 use Rattle.plan.proofs.coarse_count.Goals as goal

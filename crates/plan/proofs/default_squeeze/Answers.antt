@@ -1,5 +1,4 @@
 -- `default_squeeze` meets its contract: the steps that no steps mean. Assumes nothing.
-use borrow.Author.Rules.{rules}
 use Rattle.plan.proofs.default_squeeze.Goals as goal
 
 pub returns : goal.returns

@@ -21,11 +21,9 @@ After-entry_of-second = Lts.After-entry_of2 tie.the-claims reads.Pre reads.Post 
 abbrev After-meta_count-k : Type 0
 After-meta_count-k = Lts.After-meta_count tie.the-claims reads.Pre reads.Post tie.handed_clauses
 
-
 -- where the first of the channels that are not meta was found
 abbrev first : After-entry_of-second → After-entry_of-first
 first c = c.before.before.before.before.before
-
 
 -- and where the meta channels were counted
 abbrev metas : After-entry_of-first → After-meta_count-k

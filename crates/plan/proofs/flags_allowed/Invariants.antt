@@ -1,7 +1,6 @@
 -- `flags_allowed` meets its contract: the flags passed are allowed (proofs/Flags.antt). Assumes nothing.
 use Prim.Native.Nat.{◌-◌}
-use borrow.Author.Rules.{rules}
-use Rattle.plan.proofs.Flags.{Allowed, allowed_none, allowed_more, allowed_stop, allowed_all}
+use Rattle.plan.proofs.Flags.{Allowed}
 use Rattle.plan.proofs.flags_allowed.Given as goal
 
 abbrev pub invariant-loop-k : goal.invariant-loop-k

@@ -4,7 +4,6 @@ use mathlib.Core.Bool.{Bool, true, false}
 use Prim.Native.Nat.{◌+◌, ◌*◌, ◌≤◌}
 use native.Mathlib.Omega.{arith}
 use mir.Val.{bool_byte}
-use borrow.Author.Rules.{rules}
 use Rattle.plan.specs.Steps.{bit, flags_of}
 use Rattle.plan.proofs.flags_of.Goals as goal
 

@@ -1,5 +1,4 @@
 -- `is_coarse` meets its contract. Assumes nothing.
-use borrow.Author.Rules.{rules}
 use Rattle.plan.specs.Coarse.{is_coarse}
 use Rattle.plan.proofs.is_coarse.Goals as goal
 

@@ -1,5 +1,4 @@
 -- `is_counted` meets its contract, by cases on what is counted. Assumes nothing.
-use borrow.Author.Rules.{rules}
 use Rattle.plan.specs.Counted.{is_counted}
 use Rattle.plan.proofs.is_counted.Goals as goal
 

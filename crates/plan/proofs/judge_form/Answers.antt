@@ -1,5 +1,4 @@
 -- `judge_form` meets its contract: each return has the answers to the questions before it (proofs/Form.antt). Assumes nothing.
-use borrow.Author.Rules.{rules}
 use Rattle.plan.proofs.Form.{form_numbers, form_count, form_flags, form_rest}
 use Rattle.plan.proofs.judge_form.Goals as goal
 
@@ -11,12 +10,8 @@ flags_allowed-requires c = form_count c.args.version _ c.args.steps _ c.judge-an
 
 pub returns-then-answer-flags_allowed : goal.returns-then-answer-flags_allowed
 returns-then-answer-flags_allowed c =
-    let f = c in
-    let q = f in
-    form_flags _ _ _ _ q.judge-answer.ensures q.if-answer-steps.false _ _ f.flags_allowed.ensures c.is_version.ensures c.if-answer-flags_allowed.true
+    form_flags _ _ _ _ c.judge-answer.ensures c.if-answer-steps.false _ _ c.flags_allowed.ensures c.is_version.ensures c.if-answer-flags_allowed.true
 
 pub returns : goal.returns
 returns c =
-    let f = c in
-    let q = f in
-    form_rest _ _ _ _ q.judge-answer.ensures q.if-answer-steps.false _ _ f.flags_allowed.ensures c.is_version.ensures c.if-answer-flags_allowed.false
+    form_rest _ _ _ _ c.judge-answer.ensures c.if-answer-steps.false _ _ c.flags_allowed.ensures c.is_version.ensures c.if-answer-flags_allowed.false

@@ -1,9 +1,8 @@
 -- `leading` meets its contract: what was counted and what is left give the whole (proofs/Passed.antt). Assumes nothing.
 use Prim.Native.Nat.{◌-◌}
-use borrow.Author.Rules.{rules}
 use Rattle.list.specs.Lists.{max_channels}
 use Rattle.plan.specs.Counted.{is_counted}
-use Rattle.plan.proofs.Passed.{Passed, passed_none, passed_more, passed_stop, passed_all}
+use Rattle.plan.proofs.Passed.{Passed}
 use Rattle.plan.proofs.leading.Given as goal
 
 abbrev pub invariant-loop-k : goal.invariant-loop-k

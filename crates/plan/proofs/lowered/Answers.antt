@@ -1,5 +1,4 @@
 -- `lowered` meets its contract, by the two cases of the test. Assumes nothing.
-use borrow.Author.Rules.{rules}
 use borrow.Author.Tests.{lt-ltb, le-ltb}
 use Rattle.plan.proofs.lowered.Goals as goal
 

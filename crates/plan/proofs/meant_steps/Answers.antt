@@ -2,7 +2,6 @@
 use mathlib.Core.Path.{sym, ◌∙◌}
 use mathlib.Core.List.{[]}
 use native.Mathlib.Omega.{arith}
-use borrow.Author.Rules.{rules}
 use Rattle.list.proofs.Acceptance.{count_inside, list_accepted, allowed_both}
 use Rattle.plan.proofs.Turns.{stops}
 use Rattle.plan.proofs.Packed.{packed_count}
@@ -15,32 +14,25 @@ returns-then-answer-ne0 c =
 
 pub returns-then-steps-ne0 : goal.returns-then-steps-ne0
 returns-then-steps-ne0 c =
-    let q = c in
-    let e = q.judge_form-answer.ensures in
-    record { value = meant_given _ _ _ _ e q.if-answer-ne0.false c.if-steps-ne0.true; room = (form_accepted _ _ _ (sym e ∙ q.if-answer-ne0.false)).1 }
+    let e = c.judge_form-answer.ensures in
+    record { value = meant_given _ _ _ _ e c.if-answer-ne0.false c.if-steps-ne0.true; room = (form_accepted _ _ _ (sym e ∙ c.if-answer-ne0.false)).1 }
 
 pub returns-then-list-meta_count : goal.returns-then-list-meta_count
 returns-then-list-meta_count c =
-    let m = c in
-    let q = m in
     record {
-      value = meant_none _ _ _ _ q.judge_form-answer.ensures q.if-answer-ne0.false m.if-steps-ne0.false _ _ m.meta_count.ensures c.if-list-meta_count.true c.empty-then-list-meta_count.ensures;
+      value = meant_none _ _ _ _ c.judge_form-answer.ensures c.if-answer-ne0.false c.if-steps-ne0.false _ _ c.meta_count.ensures c.if-list-meta_count.true c.empty-then-list-meta_count.ensures;
       room = omega (arith, packed_count _ [] c.empty-then-list-meta_count.ensures);
     }
 
 pub default_steps-requires : goal.default_steps-requires
 default_steps-requires c =
-    let m = c in
-    let q = m in
-    let ok = (form_accepted _ _ _ (sym q.judge_form-answer.ensures ∙ q.if-answer-ne0.false)).0 in
-    (rw c.of.ensures (stops _), (count_inside _ ok).1, omega (arith, m.meta_count.ensures), (allowed_both _ (list_accepted _ ok).allowed).1)
+    let ok = (form_accepted _ _ _ (sym c.judge_form-answer.ensures ∙ c.if-answer-ne0.false)).0 in
+    (rw c.of.ensures (stops _), (count_inside _ ok).1, omega (arith, c.meta_count.ensures), (allowed_both _ (list_accepted _ ok).allowed).1)
 
 pub returns : goal.returns
 returns c =
-    let m = c in
-    let q = m in
     let d = c.default_steps.ensures in
     record {
-      value = meant_default _ _ _ _ q.judge_form-answer.ensures q.if-answer-ne0.false m.if-steps-ne0.false _ _ m.meta_count.ensures c.if-list-meta_count.false (rw c.of.ensures at d.value);
+      value = meant_default _ _ _ _ c.judge_form-answer.ensures c.if-answer-ne0.false c.if-steps-ne0.false _ _ c.meta_count.ensures c.if-list-meta_count.false (rw c.of.ensures at d.value);
       room = d.room;
     }

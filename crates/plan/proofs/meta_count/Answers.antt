@@ -1,5 +1,4 @@
 -- `meta_count` meets its contract: it counts the leading meta channels. Assumes nothing.
-use borrow.Author.Rules.{rules}
 use Rattle.plan.specs.Default.{meta_count}
 use Rattle.plan.specs.Counted.{is_counted}
 use Rattle.plan.proofs.meta_count.Goals as goal

@@ -1,6 +1,5 @@
 -- `rewrite` meets its contract: the steps that are meant, or their refusal, and the run of these (proofs/Answers.antt). Assumes nothing.
 use mathlib.Core.Path.{sym, ◌∙◌}
-use borrow.Author.Rules.{rules}
 use Rattle.plan.proofs.Answers.{form_accepted, meaning_accepted, meaning_answer, rewritten_refused, rewritten_run}
 use Rattle.plan.proofs.rewrite.Goals as goal
 

@@ -1,12 +1,8 @@
 -- `rounds` meets its contract: the turns that are left fit and give the whole plan (`Left` of proofs/Appended.antt). A turn lowers the sum of the
 -- sides. Assumes nothing.
 use mathlib.Core.Path.{refl}
-use Prim.Native.Nat.{◌+◌, ◌≤◌}
-use borrow.Author.Rules.{rules}
-use Rattle.plan.specs.Adding.{appended}
-use Rattle.plan.specs.Default as Default
 use Rattle.plan.proofs.Turns.{turn_lowers}
-use Rattle.plan.proofs.Appended.{Left, left_across, left_down, left_more, left_none}
+use Rattle.plan.proofs.Appended.{left_across, left_down, left_more, left_none}
 use Rattle.plan.proofs.rounds.Goals as goal
 
 pub loop-width-init : goal.loop-width-init
@@ -20,10 +16,9 @@ push_if-steps-requires c = let i = c.loop-width.invariant in left_down _ _ _ i.0
 
 pub loop-width-smaller : goal.loop-width-smaller
 loop-width-smaller c =
-    let at = c in
     let w = c.lowered-width.ensures in
     let h = c.lowered-height.ensures in
-    rw (w, h) (turn_lowers _ at.loop-width.width at.loop-width.height at.loop-width.invariant.0 c.loop-width-test.true)
+    rw (w, h) (turn_lowers _ c.loop-width.width c.loop-width.height c.loop-width.invariant.0 c.loop-width-test.true)
 
 pub loop-width-preserved : goal.loop-width-preserved
 loop-width-preserved c =

@@ -1,12 +1,9 @@
 -- `rounds` meets its contract: the turns that are left fit and give the whole plan (`Left` of proofs/Appended.antt). A turn lowers the sum of the
 -- sides. Assumes nothing.
-use mathlib.Core.Path.{refl}
 use Prim.Native.Nat.{◌+◌, ◌≤◌}
-use borrow.Author.Rules.{rules}
 use Rattle.plan.specs.Adding.{appended}
 use Rattle.plan.specs.Default as Default
-use Rattle.plan.proofs.Turns.{turn_lowers}
-use Rattle.plan.proofs.Appended.{Left, left_across, left_down, left_more, left_none}
+use Rattle.plan.proofs.Appended.{Left}
 use Rattle.plan.proofs.rounds.Given as goal
 
 abbrev pub invariant-loop-width : goal.invariant-loop-width

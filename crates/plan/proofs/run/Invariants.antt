@@ -1,8 +1,6 @@
 -- `run` meets its contract: at each step the list reached and the steps left give the whole run (`Reached` of proofs/Reached.antt). Assumes nothing.
 use Prim.Native.Nat.{◌-◌}
-use borrow.Author.Rules.{rules}
-use Rattle.list.proofs.Acceptance.{count_inside}
-use Rattle.plan.proofs.Reached.{Reached, reached_none, reached_more, reached_stop, reached_all}
+use Rattle.plan.proofs.Reached.{Reached}
 use Rattle.plan.proofs.run.Given as goal
 
 abbrev pub invariant-loop-k : goal.invariant-loop-k

@@ -1,13 +1,8 @@
 -- `tidied` meets its contract: up to k the arrays hold the channels of the list and their own positions, and zeros after them. Assumes nothing.
-use mathlib.Core.Path.{sym, ◌∙◌}
 use Prim.Native.Nat.{◌-◌, ◌≤◌}
-use native.Mathlib.Omega.{arith}
-use borrow.Author.Rules.{rules}
 use lib.ListN.{length}
 use Rattle.list.specs.Lists.{max_channels, channels, own_positions}
-use Rattle.list.proofs.Channels.{found_at, own_length, own_at}
-use Rattle.list.proofs.Filled.{Filling, filling_none, filling_stored, filling_all}
-use Rattle.plan.proofs.Counts.{counted_all}
+use Rattle.list.proofs.Filled.{Filling}
 use Rattle.plan.proofs.tidied.Given as goal
 
 abbrev pub invariant-loop-k : goal.invariant-loop-k

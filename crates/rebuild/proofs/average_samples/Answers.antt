@@ -4,16 +4,14 @@ use mathlib.Core.Path.{sym}
 use Prim.Native.Nat.{◌≤◌}
 use native.Mathlib.Omega.{arith}
 use native.Mathlib.Nat.{mul-le-mul}
-use borrow.Author.Rules.{rules}
 use Rattle.runs.proofs.OneChannel.{average_samples}
 use Rattle.rebuild.proofs.OneTile.{lines_small, size_small}
 use Rattle.rebuild.proofs.average_samples.Goals as goal
 
 pub overflow_mul-result : goal.overflow_mul-result
 overflow_mul-result c =
-    let q = c in
-    let lines = lines_small q.args.horizontal q.args.c 4294967295 (omega arith) (omega arith) in
-    let size = size_small q.args.horizontal q.args.c 4294967295 (omega arith) (omega arith) in
+    let lines = lines_small c.args.horizontal c.args.c 4294967295 (omega arith) (omega arith) in
+    let size = size_small c.args.horizontal c.args.c 4294967295 (omega arith) (omega arith) in
     let el = c.across.ensures in
     let es = c.averages_along.ensures in
     let l : c.across.result ≤ 4294967295 = omega arith in
@@ -22,5 +20,4 @@ overflow_mul-result c =
 
 pub returns : goal.returns
 returns c =
-    let q = c in
-    rw (c.across.ensures, c.averages_along.ensures) (sym (average_samples q.args.horizontal q.args.c))
+    rw (c.across.ensures, c.averages_along.ensures) (sym (average_samples c.args.horizontal c.args.c))

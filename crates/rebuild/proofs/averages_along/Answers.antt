@@ -1,6 +1,5 @@
 -- `averages_along` meets its contract: sides of 32 bits leave room for the sum. Assumes nothing.
 use native.Mathlib.Omega.{arith}
-use borrow.Author.Rules.{rules}
 use Rattle.rebuild.proofs.OneTile.{size_small}
 use Rattle.rebuild.proofs.averages_along.Goals as goal
 

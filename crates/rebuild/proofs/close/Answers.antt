@@ -1,11 +1,8 @@
 -- `close` meets its contract: entry by entry (`Upto` of proofs/Entries.antt). Assumes nothing.
 use mathlib.Core.Bool.{false}
 use mathlib.Core.Logic.{inl, inr}
-use Prim.Native.Nat.{◌+◌, ◌-◌, ◌≤◌, max}
 use native.Mathlib.Omega.{arith}
-use borrow.Author.Rules.{rules}
-use lib.ListN.{get_or}
-use Rattle.rebuild.proofs.Entries.{Upto, upto_none, upto_more}
+use Rattle.rebuild.proofs.Entries.{upto_none, upto_more}
 use Rattle.rebuild.proofs.close.Goals as goal
 
 pub loop-k-init : goal.loop-k-init
@@ -13,15 +10,13 @@ loop-k-init c = (omega arith, omega arith, upto_none 0 _ c.args.at c.args.starts
 
 pub loop-k-preserved : goal.loop-k-preserved
 loop-k-preserved c =
-    let head = c in
-    let start = head in
-    let i = head.loop-k.invariant in
+    let i = c.loop-k.invariant in
     let l = c.loop-k-test.true in
-    let p = start.requires in (
+    let p = c.requires in (
       omega (arith, i.0),
       omega (arith, l),
-      upto_more 0 _ start.args.at start.args.starts.now head.loop-k.k head.loop-k.starts _ i.0 (omega (arith, l, p.0, p.1)) (i.2.else _ (inr (omega arith))) i.2,
-      upto_more false _ start.args.at start.args.made.now head.loop-k.k head.loop-k.made _ i.0 (omega (arith, l, p.0, p.2)) (i.3.else _ (inr (omega arith))) i.3,
+      upto_more 0 _ c.args.at c.args.starts.now c.loop-k.k c.loop-k.starts _ i.0 (omega (arith, l, p.0, p.1)) (i.2.else _ (inr (omega arith))) i.2,
+      upto_more false _ c.args.at c.args.made.now c.loop-k.k c.loop-k.made _ i.0 (omega (arith, l, p.0, p.2)) (i.3.else _ (inr (omega arith))) i.3,
     )
 
 pub returns : goal.returns

@@ -1,11 +1,8 @@
 -- `close` meets its contract: entry by entry (`Upto` of proofs/Entries.antt). Assumes nothing.
 use mathlib.Core.Bool.{false}
-use mathlib.Core.Logic.{inl, inr}
 use Prim.Native.Nat.{◌+◌, ◌-◌, ◌≤◌, max}
-use native.Mathlib.Omega.{arith}
-use borrow.Author.Rules.{rules}
 use lib.ListN.{get_or}
-use Rattle.rebuild.proofs.Entries.{Upto, upto_none, upto_more}
+use Rattle.rebuild.proofs.Entries.{Upto}
 use Rattle.rebuild.proofs.close.Given as goal
 
 abbrev pub invariant-loop-k : goal.invariant-loop-k

@@ -1,5 +1,4 @@
 -- `lying` meets its contract, by the two slices. Assumes nothing.
-use borrow.Author.Rules.{rules}
 use Rattle.rebuild.proofs.Lent.{lent}
 use Rattle.rebuild.proofs.lying.Goals as goal
 

@@ -1,6 +1,5 @@
 -- `make_channel` meets its contract, by the two slots. Assumes nothing.
 use mathlib.Core.Path.{refl}
-use borrow.Author.Rules.{rules}
 use borrow.Author.Tests.{eq-eqb, ne_eqb}
 use Rattle.places.specs.Places.{odd}
 use Rattle.rebuild.proofs.make_channel.Goals as goal
@@ -20,10 +19,8 @@ put_channel-requires-else-slot-eq-ODD c =
 
 pub returns-then-slot-eq-ODD : goal.returns-then-slot-eq-ODD
 returns-then-slot-eq-ODD c =
-    let start = c in
-    rw (eq-eqb start.args.slot odd c.if-slot-eq-ODD.true) (record { there = c.put_channel.ensures; else = refl })
+    rw (eq-eqb c.args.slot odd c.if-slot-eq-ODD.true) (record { there = c.put_channel.ensures; else = refl })
 
 pub returns-else-slot-eq-ODD : goal.returns-else-slot-eq-ODD
 returns-else-slot-eq-ODD c =
-    let start = c in
-    rw (ne_eqb start.args.slot odd c.if-slot-eq-ODD.false) (record { there = c.put_channel-else-slot-eq-ODD.ensures; else = refl })
+    rw (ne_eqb c.args.slot odd c.if-slot-eq-ODD.false) (record { there = c.put_channel-else-slot-eq-ODD.ensures; else = refl })

@@ -1,13 +1,8 @@
 -- `make_range` meets its contract: channel by channel (`Taken` of proofs/Ranges.antt). Assumes nothing.
-use mathlib.Core.Path.{◌≡◌, refl, sym, ap, ◌∙◌}
-use Prim.Native.Nat.{ℕ, ◌+◌, ◌-◌, ◌<◌, ◌≤◌}
-use native.Mathlib.Omega.{arith}
-use borrow.Author.Rules.{rules}
-use mathlib.Core.List.{List}
-use lib.ListN.{length}
-use Rattle.places.specs.Places.{Place, residuals_at, place_at, places_in, place_of}
-use Rattle.places.proofs.Arrays.{places_length, places_at}
-use Rattle.rebuild.proofs.Ranges.{Taken, taken_none, turn_inside, put_fits, taken_more, taken_all}
+use mathlib.Core.Path.{◌≡◌}
+use Prim.Native.Nat.{◌-◌, ◌≤◌}
+use Rattle.places.specs.Places.{residuals_at, places_in}
+use Rattle.rebuild.proofs.Ranges.{Taken}
 use Rattle.rebuild.proofs.make_range.Given as goal
 
 abbrev pub invariant-loop-i : goal.invariant-loop-i

@@ -1,13 +1,8 @@
 -- `mark` meets its contract: entry by entry (`Upto` of proofs/Entries.antt). Assumes nothing.
-use mathlib.Core.Path.{refl}
 use mathlib.Core.Bool.{true, false}
-use mathlib.Core.Logic.{◌⊎◌, inl, inr}
-use Prim.Native.Nat.{ℕ, ◌-◌, ◌<◌, ◌≤◌, max}
-use native.Mathlib.Omega.{arith}
-use borrow.Author.Rules.{rules}
+use Prim.Native.Nat.{◌-◌, ◌≤◌, max}
 use lib.ListN.{get_or}
-use Rattle.line.proofs.Lines.{lt_or_ge}
-use Rattle.rebuild.proofs.Entries.{Upto, upto_none, upto_more}
+use Rattle.rebuild.proofs.Entries.{Upto}
 use Rattle.rebuild.proofs.mark.Given as goal
 
 abbrev pub invariant-loop-k : goal.invariant-loop-k

@@ -1,10 +1,7 @@
 -- `place_steps` meets its contract: step by step. Assumes nothing.
 use mathlib.Core.Path.{◌≡◌, refl}
-use Prim.Native.Nat.{◌-◌, ◌≤◌}
 use native.Mathlib.Omega.{arith}
-use borrow.Author.Rules.{rules}
 use Rattle.places.specs.Places.{places_in}
-use Rattle.rebuild.specs.Run.{places_all, first_steps}
 use Rattle.rebuild.proofs.Arrays.{placed_more}
 use Rattle.rebuild.proofs.place_steps.Goals as goal
 
@@ -13,12 +10,10 @@ loop-k-init c = (omega arith, refl)
 
 pub loop-k-preserved : goal.loop-k-preserved
 loop-k-preserved c =
-    let turn = c in
-    let head = turn in
-    let i = head.loop-k.invariant in
-    let a = head.args in (
-      omega (arith, turn.loop-k-test.true),
-      placed_more a.steps head.loop-k.k (places_in a.first a.widths.now a.heights.now a.homes.now a.slots.now) _ _ _ _ _ _ _ _ _ _ _ c.step.ensures (head.requires head.loop-k.k turn.loop-k-test.true) i.1 c.place_step-count.ensures.1,
+    let i = c.loop-k.invariant in
+    let a = c.args in (
+      omega (arith, c.loop-k-test.true),
+      placed_more a.steps c.loop-k.k (places_in a.first a.widths.now a.heights.now a.homes.now a.slots.now) _ _ _ _ _ _ _ _ _ _ _ c.step.ensures (c.requires c.loop-k.k c.loop-k-test.true) i.1 c.place_step-count.ensures.1,
     )
 
 pub returns : goal.returns

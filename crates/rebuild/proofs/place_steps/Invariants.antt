@@ -1,11 +1,8 @@
 -- `place_steps` meets its contract: step by step. Assumes nothing.
-use mathlib.Core.Path.{◌≡◌, refl}
+use mathlib.Core.Path.{◌≡◌}
 use Prim.Native.Nat.{◌-◌, ◌≤◌}
-use native.Mathlib.Omega.{arith}
-use borrow.Author.Rules.{rules}
 use Rattle.places.specs.Places.{places_in}
 use Rattle.rebuild.specs.Run.{places_all, first_steps}
-use Rattle.rebuild.proofs.Arrays.{placed_more}
 use Rattle.rebuild.proofs.place_steps.Given as goal
 
 abbrev pub invariant-loop-k : goal.invariant-loop-k

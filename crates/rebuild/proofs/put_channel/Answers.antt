@@ -3,7 +3,6 @@ use mathlib.Core.Path.{◌≡◌, sym, ap, ◌∙◌}
 use Prim.Native.Nat.{ℕ, ◌-◌}
 use native.Mathlib.Omega.{arith}
 use lib.ListN.{length}
-use borrow.Author.Rules.{rules}
 use Rattle.list.proofs.Totals.{parts_samples}
 use Rattle.channel.specs.Channel.{samples}
 use Rattle.list.specs.Lists.{residual}
@@ -28,9 +27,8 @@ lying-r-requires c =
 
 pub channel_back-requires : goal.channel_back-requires
 channel_back-requires c =
-    let start = c in
-    let a = start.args in
-    let f = start.requires in
+    let a = c.args in
+    let f = c.requires in
     let e = parts_samples a.horizontal a.c in
     let n = c.samples-n.ensures in
     let m = c.average_samples-averages.ensures in
@@ -46,9 +44,8 @@ channel_back-requires c =
 
 pub returns : goal.returns
 returns c =
-    let start = c in
-    let a = start.args in
-    let f = start.requires in
+    let a = c.args in
+    let f = c.requires in
     let e = parts_samples a.horizontal a.c in
     let n = c.samples-n.ensures in
     let m = c.average_samples-averages.ensures in

@@ -1,9 +1,7 @@
 -- `rebuild` meets its contract: each return has the answers to the questions before it, and the last has the run (proofs/Outcome.antt). Assumes nothing.
 use mathlib.Core.Path.{sym, ◌∙◌}
-use borrow.Author.Tests.{not-true, not-false}
 use Rattle.plan.proofs.Judged.{plan_answer}
 use Rattle.rebuild.proofs.Outcome.{run_fits, run_is, ends_refused, ends_misfit, lengths, ends_done}
-use borrow.Author.Rules.{rules}
 use Rattle.rebuild.proofs.rebuild.Goals as goal
 
 pub returns-then-answer-ne0 : goal.returns-then-answer-ne0
@@ -15,11 +13,10 @@ returns-then-answer-ne0 c =
 
 pub returns-then-not-pyramid-total : goal.returns-then-not-pyramid-total
 returns-then-not-pyramid-total c =
-    let m = c in
-    let w = m.rewrite-answer in
-    let a = m.args in
-    ends_misfit a.version a.list a.steps a.pyramid.now a.picture.now a.work.now w.result.answer (plan_answer a.version a.list a.steps w.result w.ensures) m.if-answer-ne0.false m.total-total.result
-    m.total-total.ensures c.if-not-pyramid-total.true
+    let w = c.rewrite-answer in
+    let a = c.args in
+    ends_misfit a.version a.list a.steps a.pyramid.now a.picture.now a.work.now w.result.answer (plan_answer a.version a.list a.steps w.result w.ensures) c.if-answer-ne0.false c.total-total.result
+    c.total-total.ensures c.if-not-pyramid-total.true
 
 pub run-requires : goal.run-requires
 run-requires c =

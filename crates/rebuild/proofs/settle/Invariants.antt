@@ -1,13 +1,9 @@
 -- `settle` meets its contract: channel by channel (`Settling` of proofs/Settling.antt). Assumes nothing.
-use mathlib.Core.Path.{◌≡◌, refl, sym, ◌∙◌}
-use Prim.Native.Nat.{◌+◌, ◌-◌, ◌*◌, ◌≤◌}
-use native.Mathlib.Omega.{arith}
-use borrow.Author.Rules.{rules}
-use lib.ListN.{length, get_or}
-use Rattle.numbers.specs.Numbers.{max_samples}
+use mathlib.Core.Path.{◌≡◌}
+use Prim.Native.Nat.{◌-◌, ◌≤◌}
 use Rattle.list.specs.Lists.{channels}
 use Rattle.rebuild.specs.Run.{place_in}
-use Rattle.rebuild.proofs.Settling.{Settling, settling_none, settling_more, settling_all, place_next, place_inside, entry_samples}
+use Rattle.rebuild.proofs.Settling.{Settling}
 use Rattle.rebuild.proofs.settle.Given as goal
 
 abbrev pub invariant-loop-k : goal.invariant-loop-k

@@ -1,9 +1,7 @@
 -- `steps_back` meets its contract: with so many steps left, each channel has its samples (`Back` of specs/Run.antt). Assumes nothing.
 use mathlib.Core.Path.{◌≡◌, sym, ◌∙◌}
-use Prim.Native.Nat.{◌+◌, ◌-◌, ◌≤◌}
+use Prim.Native.Nat.{◌+◌, ◌-◌}
 use native.Mathlib.Omega.{arith}
-use borrow.Author.Rules.{rules}
-use Rattle.rebuild.specs.Run.{Back}
 use Rattle.rebuild.proofs.steps_back.Goals as goal
 
 pub loop-left-init : goal.loop-left-init
@@ -11,12 +9,10 @@ loop-left-init c = (omega arith, c.requires.1)
 
 pub step_back-requires : goal.step_back-requires
 step_back-requires c =
-    let start = c in
-    let head = c in
-    let i = head.loop-left.invariant in
+    let i = c.loop-left.invariant in
     let l = c.loop-left-test.true in
-    let z : head.loop-left.left - 1 + 1 ≡ head.loop-left.left = omega (arith, l) in
-    (start.requires.0, omega (arith, i.0, l), rw z i.1)
+    let z : c.loop-left.left - 1 + 1 ≡ c.loop-left.left = omega (arith, l) in
+    (c.requires.0, omega (arith, i.0, l), rw z i.1)
 
 pub loop-left-preserved : goal.loop-left-preserved
 loop-left-preserved c = (omega (arith, c.loop-left.invariant.0), c.step_back.ensures)

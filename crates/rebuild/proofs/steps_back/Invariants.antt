@@ -1,8 +1,5 @@
 -- `steps_back` meets its contract: with so many steps left, each channel has its samples (`Back` of specs/Run.antt). Assumes nothing.
-use mathlib.Core.Path.{◌≡◌, sym, ◌∙◌}
-use Prim.Native.Nat.{◌+◌, ◌-◌, ◌≤◌}
-use native.Mathlib.Omega.{arith}
-use borrow.Author.Rules.{rules}
+use Prim.Native.Nat.{◌≤◌}
 use Rattle.rebuild.specs.Run.{Back}
 use Rattle.rebuild.proofs.steps_back.Given as goal
 

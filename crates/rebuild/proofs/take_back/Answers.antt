@@ -3,21 +3,18 @@ use mathlib.Core.Path.{sym, ap, ◌∙◌}
 use native.Mathlib.Omega.{arith}
 use Rattle.places.specs.Places.{Place}
 use Rattle.places.proofs.Arrays.{places_length, places_at}
-use borrow.Author.Rules.{rules}
 use Rattle.rebuild.proofs.take_back.Goals as goal
 
 pub close-requires : goal.close-requires
 close-requires c =
-    let start = c in
-    let a = start.args in
+    let a = c.args in
     let n = places_length a.count a.widths.now a.heights.now a.homes.now a.slots.now in
     let k = c.mark.auto in
-    (omega (arith, start.requires.room, n), k.starts ∙ start.requires.starts_long, k.made ∙ start.requires.made_long)
+    (omega (arith, c.requires.room, n), k.starts ∙ c.requires.starts_long, k.made ∙ c.requires.made_long)
 
 pub returns : goal.returns
 returns c =
-    let start = c in
-    let a = start.args in
+    let a = c.args in
     let n = places_length a.count a.widths.now a.heights.now a.homes.now a.slots.now in
     record {
       marked_starts = c.mark.new.starts;

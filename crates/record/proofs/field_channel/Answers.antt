@@ -1,6 +1,5 @@
 -- `field_channel` meets its contract: by the tag. Assumes nothing.
 use borrow.Author.Tests.{eq-eqb, ne_eqb}
-use borrow.Author.Rules.{rules}
 use Rattle.record.specs.Bytes.{strip_tag}
 use Rattle.record.specs.Reading.{field_channel}
 use Rattle.record.proofs.field_channel.Goals as goal

@@ -1,5 +1,4 @@
 -- `field_inside` meets its contract, by the head and then by the stated length. Assumes nothing.
-use borrow.Author.Rules.{rules}
 use borrow.Author.Tests.{le-leb, lt-leb}
 use Rattle.record.specs.Bytes.{head_length}
 use Rattle.record.specs.Reading.{field_inside}

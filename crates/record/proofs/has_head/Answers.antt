@@ -1,5 +1,4 @@
 -- `has_head` meets its contract: the code's two tests are the definition's. Assumes nothing.
-use borrow.Author.Rules.{rules}
 use Rattle.record.specs.Reading.{has_head}
 use Rattle.record.proofs.has_head.Goals as goal
 

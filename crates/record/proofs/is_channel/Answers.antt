@@ -1,5 +1,4 @@
 -- `is_channel` meets its contract: the code's three tests are the definition's. Assumes nothing.
-use borrow.Author.Rules.{rules}
 use Rattle.record.specs.Reading.{is_channel}
 use Rattle.record.proofs.is_channel.Goals as goal
 

@@ -1,5 +1,4 @@
 -- `is_step` meets its contract: the code's test is the definition's. Assumes nothing.
-use borrow.Author.Rules.{rules}
 use Rattle.record.specs.Reading.{is_step}
 use Rattle.record.proofs.is_step.Goals as goal
 

@@ -1,6 +1,5 @@
 -- `judge_channel` meets its contract: each return has the answers to the questions before it. Assumes nothing.
 use borrow.Author.Tests.{lt-ltb, le-ltb}
-use borrow.Author.Rules.{rules}
 use Rattle.list.specs.Lists.{max_channels}
 use Rattle.record.specs.Reading.{judge_channel_field}
 use Rattle.list.proofs.Asking.{no, yes}
@@ -14,17 +13,13 @@ returns-then-channels-ge-MAX_CHANNELS c = rw (le-ltb _ max_channels c.if-channel
 pub returns-then-not-allowed-bytes : goal.returns-then-not-allowed-bytes
 unfolding judge_channel_field
 returns-then-not-allowed-bytes c =
-    let m = c in
-    let q = m in
-    let g = q.args in
-    let a = channel_asked g.bytes.now q.field_channel-c.result g.metas _ _ _ q.field_channel-c.ensures m.is_allowed.ensures m.is_meta.ensures c.is_strip.ensures in
-    rw (lt-ltb _ max_channels q.if-channels-ge-MAX_CHANNELS.false, no a c.if-not-allowed-bytes.true)
+    let g = c.args in
+    let a = channel_asked g.bytes.now c.field_channel-c.result g.metas _ _ _ c.field_channel-c.ensures c.is_allowed.ensures c.is_meta.ensures c.is_strip.ensures in
+    rw (lt-ltb _ max_channels c.if-channels-ge-MAX_CHANNELS.false, no a c.if-not-allowed-bytes.true)
 
 pub returns : goal.returns
 unfolding judge_channel_field
 returns c =
-    let m = c in
-    let q = m in
-    let g = q.args in
-    let a = channel_asked g.bytes.now q.field_channel-c.result g.metas _ _ _ q.field_channel-c.ensures m.is_allowed.ensures m.is_meta.ensures c.is_strip.ensures in
-    rw (lt-ltb _ max_channels q.if-channels-ge-MAX_CHANNELS.false, yes a c.if-not-allowed-bytes.false)
+    let g = c.args in
+    let a = channel_asked g.bytes.now c.field_channel-c.result g.metas _ _ _ c.field_channel-c.ensures c.is_allowed.ensures c.is_meta.ensures c.is_strip.ensures in
+    rw (lt-ltb _ max_channels c.if-channels-ge-MAX_CHANNELS.false, yes a c.if-not-allowed-bytes.false)

@@ -1,7 +1,6 @@
 -- `judge_step` meets its contract: each return has the answers to the questions before it. Assumes nothing.
 use Prim.Native.Nat.{◌<◌}
 use native.Mathlib.Omega.{arith}
-use borrow.Author.Rules.{rules}
 use borrow.Author.Tests.{lt-ltb, le-ltb}
 use Rattle.list.specs.Lists.{max_steps}
 use Rattle.plan.specs.Steps.{flags_allowed}

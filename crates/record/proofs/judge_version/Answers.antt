@@ -1,6 +1,5 @@
 -- `judge_version` meets its contract: each return has the answers to the questions before it. Assumes nothing.
 use native.Mathlib.Omega.{arith}
-use borrow.Author.Rules.{rules}
 use borrow.Author.Tests.{eq-eqb, ne_eqb}
 use Rattle.list.proofs.Asking.{no, yes}
 use Rattle.plan.specs.Version.{house_version}
@@ -18,35 +17,28 @@ has_head-requires c = (inside _ (yes c.field_inside.ensures c.if-not-field_insid
 pub returns-then-not-has_head : goal.returns-then-not-has_head
 unfolding judge_version_field
 returns-then-not-has_head c =
-    let q = c in
-    rw (yes q.field_inside.ensures q.if-not-field_inside.false, no c.has_head.ensures c.if-not-has_head.true)
+    rw (yes c.field_inside.ensures c.if-not-field_inside.false, no c.has_head.ensures c.if-not-has_head.true)
 
 pub bounds-bytes-3 : goal.bounds-bytes-3
 bounds-bytes-3 c =
-    let h = c in
-    let q = h in
-    let i = inside _ (yes q.field_inside.ensures q.if-not-field_inside.false) in
-    let f = head _ _ _ (yes h.has_head.ensures c.if-not-has_head.false) in
+    let i = inside _ (yes c.field_inside.ensures c.if-not-field_inside.false) in
+    let f = head _ _ _ (yes c.has_head.ensures c.if-not-has_head.false) in
     omega (arith, i.1, f.1)
 
 pub returns-then-bytes-ne-VERSION_VALUE : goal.returns-then-bytes-ne-VERSION_VALUE
 unfolding judge_version_field
 returns-then-bytes-ne-VERSION_VALUE c =
-    let h = c in
-    let q = h in
     rw (
-      yes q.field_inside.ensures q.if-not-field_inside.false,
-      yes h.has_head.ensures c.if-not-has_head.false,
+      yes c.field_inside.ensures c.if-not-field_inside.false,
+      yes c.has_head.ensures c.if-not-has_head.false,
       ne_eqb _ house_version c.if-bytes-ne-VERSION_VALUE.true,
     )
 
 pub returns-else-bytes-ne-VERSION_VALUE : goal.returns-else-bytes-ne-VERSION_VALUE
 unfolding judge_version_field
 returns-else-bytes-ne-VERSION_VALUE c =
-    let h = c in
-    let q = h in
     rw (
-      yes q.field_inside.ensures q.if-not-field_inside.false,
-      yes h.has_head.ensures c.if-not-has_head.false,
+      yes c.field_inside.ensures c.if-not-field_inside.false,
+      yes c.has_head.ensures c.if-not-has_head.false,
       eq-eqb _ house_version c.if-bytes-ne-VERSION_VALUE.false,
     )

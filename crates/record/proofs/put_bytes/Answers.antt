@@ -1,11 +1,10 @@
 -- `put_bytes` meets its contract. The loop's invariant: the bytes have room, and those so far are pasted into the slice. Assumes nothing.
 use mathlib.Core.Path.{◌≡◌, refl, sym, ◌∙◌}
-use Prim.Native.Nat.{◌+◌, ◌-◌, ◌<◌, ◌≤◌}
+use Prim.Native.Nat.{◌+◌, ◌<◌}
 use native.Mathlib.Omega.{arith}
 use native.Mathlib.Numerals.{add-one}
-use borrow.Author.Rules.{rules}
 use lib.ListN.{length, length-set}
-use lib.Seq.{paste, paste-zero, paste-suc}
+use lib.Seq.{paste-zero, paste-suc}
 use Rattle.record.proofs.Placed.{placed_paste, put_placed, put_nothing}
 use Rattle.record.proofs.put_bytes.Goals as goal
 
@@ -20,20 +19,18 @@ loop-k-init c = let g = c.args in (omega (arith, c.if-out-at.false, c.if-out-at-
 
 pub loop-k-preserved : goal.loop-k-preserved
 loop-k-preserved c =
-    let q = c in
-    let g = q.args in
-    let lb : q.loop-k.k < length g.bytes.now = omega arith in
-    let ls : g.at + q.loop-k.k < length g.out.now = omega arith in (
-      q.loop-k.invariant.0,
-      rw (q.loop-k.invariant.1, add-one) (paste-suc g.out.now g.at g.bytes.now q.loop-k.k 0 ls lb),
-      simp length-set q.loop-k.invariant.2,
+    let g = c.args in
+    let lb : c.loop-k.k < length g.bytes.now = omega arith in
+    let ls : g.at + c.loop-k.k < length g.out.now = omega arith in (
+      c.loop-k.invariant.0,
+      rw (c.loop-k.invariant.1, add-one) (paste-suc g.out.now g.at g.bytes.now c.loop-k.k 0 ls lb),
+      simp length-set c.loop-k.invariant.2,
       omega arith,
       refl,
     )
 
 pub returns : goal.returns
 returns c =
-    let q = c in
-    let g = q.args in
-    let e : q.loop-k.k ≡ length g.bytes.now = omega arith in
-    (rw e at q.loop-k.invariant.1) ∙ placed_paste g.out.now g.at g.bytes.now ∙ sym (put_placed g.out.now g.at g.bytes.now q.loop-k.invariant.0)
+    let g = c.args in
+    let e : c.loop-k.k ≡ length g.bytes.now = omega arith in
+    (rw e at c.loop-k.invariant.1) ∙ placed_paste g.out.now g.at g.bytes.now ∙ sym (put_placed g.out.now g.at g.bytes.now c.loop-k.invariant.0)

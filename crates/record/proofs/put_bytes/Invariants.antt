@@ -1,12 +1,8 @@
 -- `put_bytes` meets its contract. The loop's invariant: the bytes have room, and those so far are pasted into the slice. Assumes nothing.
-use mathlib.Core.Path.{◌≡◌, refl, sym, ◌∙◌}
-use Prim.Native.Nat.{◌+◌, ◌-◌, ◌<◌, ◌≤◌}
-use native.Mathlib.Omega.{arith}
-use native.Mathlib.Numerals.{add-one}
-use borrow.Author.Rules.{rules}
-use lib.ListN.{length, length-set}
-use lib.Seq.{paste, paste-zero, paste-suc}
-use Rattle.record.proofs.Placed.{placed_paste, put_placed, put_nothing}
+use mathlib.Core.Path.{◌≡◌}
+use Prim.Native.Nat.{◌+◌, ◌-◌, ◌≤◌}
+use lib.ListN.{length}
+use lib.Seq.{paste}
 use Rattle.record.proofs.put_bytes.Given as goal
 
 abbrev pub invariant-loop-k : goal.invariant-loop-k

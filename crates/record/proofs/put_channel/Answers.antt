@@ -9,16 +9,10 @@ use Rattle.record.proofs.put_channel.Goals as goal
 
 pub returns-then-is_strip : goal.returns-then-is_strip
 returns-then-is_strip c =
-    let f = c in
-    let i = f in
-    let s = i in
-    let e = channel_field_lem s.args.c true (sym i.is_strip.ensures ∙ f.if-is_strip.true) in
-    put_field _ _ _ s.requires _ _ strip_size (f.strip_field-field.ensures ∙ sym e) (search rules) c.put_bytes.ensures
+    let e = channel_field_lem c.args.c true (sym c.is_strip.ensures ∙ c.if-is_strip.true) in
+    put_field _ _ _ c.requires _ _ strip_size (c.strip_field-field.ensures ∙ sym e) (search rules) c.put_bytes.ensures
 
 pub returns-else-is_strip : goal.returns-else-is_strip
 returns-else-is_strip c =
-    let f = c in
-    let i = f in
-    let s = i in
-    let e = channel_field_lem s.args.c false (sym i.is_strip.ensures ∙ f.if-is_strip.false) in
-    put_field _ _ _ s.requires _ _ channel_size (f.short_field-field.ensures ∙ sym e) (search rules) c.put_bytes-else-is_strip.ensures
+    let e = channel_field_lem c.args.c false (sym c.is_strip.ensures ∙ c.if-is_strip.false) in
+    put_field _ _ _ c.requires _ _ channel_size (c.short_field-field.ensures ∙ sym e) (search rules) c.put_bytes-else-is_strip.ensures

@@ -1,5 +1,4 @@
 -- `read_record` meets its contract: the form's answer, then the plan's (proofs/Outcomes.antt). Assumes nothing.
-use borrow.Author.Rules.{rules}
 use Rattle.record.proofs.Outcomes.{read_refused, read_refused_plan, read_accepted}
 use Rattle.record.proofs.read_record.Goals as goal
 
@@ -8,12 +7,8 @@ returns-then-form-ne0 c = read_refused _ _ c.read_form-form.ensures c.if-form-ne
 
 pub returns-then-answer-ne0 : goal.returns-then-answer-ne0
 returns-then-answer-ne0 c =
-    let p = c in
-    let f = p in
-    read_refused_plan _ _ f.read_form-form.ensures p.if-form-ne0.false _ p.rewrite-answer.ensures _ c.if-answer-ne0.true c.refused.ensures
+    read_refused_plan _ _ c.read_form-form.ensures c.if-form-ne0.false _ c.rewrite-answer.ensures _ c.if-answer-ne0.true c.refused.ensures
 
 pub returns : goal.returns
 returns c =
-    let p = c in
-    let f = p in
-    read_accepted _ _ f.read_form-form.ensures p.if-form-ne0.false _ p.rewrite-answer.ensures c.if-answer-ne0.false
+    read_accepted _ _ c.read_form-form.ensures c.if-form-ne0.false _ c.rewrite-answer.ensures c.if-answer-ne0.false

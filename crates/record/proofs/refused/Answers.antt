@@ -1,5 +1,4 @@
 -- `refused` meets its contract: the empty arrays hold no channel and no step. Assumes nothing.
-use borrow.Author.Rules.{rules}
 use Rattle.record.specs.Records.{packed_form}
 use Rattle.record.proofs.refused.Goals as goal
 

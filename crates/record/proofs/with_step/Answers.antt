@@ -1,6 +1,5 @@
 -- `with_step` meets its contract: the arrays with one entry set are what `pushed` states, and the field's flags are those of its step. Assumes nothing.
 use native.Mathlib.Omega.{arith}
-use borrow.Author.Rules.{rules}
 use Rattle.plan.specs.Adding as A
 use Rattle.record.proofs.Fields.{step_allowed}
 use Rattle.record.proofs.Flags.{flags_read}
@@ -27,7 +26,5 @@ overflow_add-next c = omega (arith, (step_allowed _ _ c.requires.1).0)
 pub returns : goal.returns
 unfolding A.pushed
 returns c =
-    let q = c in
-    let p = q in
-    let f = flags_read p.args.bytes.now (step_allowed _ _ p.requires.1).1 in
-    rw (q.word.ensures, c.word-2.ensures, f)
+    let f = flags_read c.args.bytes.now (step_allowed _ _ c.requires.1).1 in
+    rw (c.word.ensures, c.word-2.ensures, f)

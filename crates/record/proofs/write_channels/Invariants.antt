@@ -1,13 +1,9 @@
 -- `write_channels` meets its contract. The loop's invariant: the fields so far are in the slice, and those that are left complete them
 -- (proofs/Placed.antt). Assumes nothing.
-use mathlib.Core.Path.{◌≡◌, ap}
-use Prim.Native.Nat.{◌-◌, min}
-use native.Mathlib.Omega.{arith}
-use borrow.Author.Rules.{rules}
-use Rattle.list.specs.Lists.{max_channels, channel_at, channels}
-use Rattle.list.proofs.Channels.{channels_all}
-use Rattle.record.specs.Bytes.{joined, channel_field, channel_fields}
-use Rattle.record.proofs.Placed.{Putting, putting_none, putting_length, putting_all, putting_room, putting_more}
+use Prim.Native.Nat.{◌-◌}
+use Rattle.list.specs.Lists.{channel_at, channels}
+use Rattle.record.specs.Bytes.{channel_field, channel_fields}
+use Rattle.record.proofs.Placed.{Putting}
 use Rattle.record.proofs.write_channels.Given as goal
 
 abbrev pub invariant-loop-k : goal.invariant-loop-k

@@ -1,7 +1,6 @@
 -- `write_record` meets its contract: the plan's answer, the record's length, then the version's field and the two rows of fields (proofs/Outcomes.antt).
 -- Assumes nothing.
 use native.Mathlib.Omega.{arith}
-use borrow.Author.Rules.{rules}
 use Rattle.plan.proofs.Judged.{plan_answer}
 use Rattle.record.proofs.Joined.{version_within}
 use Rattle.record.proofs.Outcomes.{write_refused, counts, channels_few, steps_size, write_short, write_length, write_bytes}
@@ -16,7 +15,6 @@ After-channels_size = Lts.After-channels_size tie.the-claims reads.Pre reads.Pos
 abbrev Else-answer-ne0 : Type 0
 Else-answer-ne0 = Lts.Else1 tie.the-claims reads.Pre reads.Post
 
-
 -- the answer 0 of the plan, where the channels' size is known
 abbrev planned : After-channels_size → Else-answer-ne0
 planned z = z.before.before
@@ -25,7 +23,7 @@ pub returns-then-answer-ne0 : goal.returns-then-answer-ne0
 returns-then-answer-ne0 c = write_refused _ _ _ _ (plan_answer _ _ _ _ c.rewrite-answer.ensures) _ c.if-answer-ne0.true
 
 pub channels_size-requires : goal.channels_size-requires
-channels_size-requires c = let e = c in (counts _ _ _ _ (plan_answer _ _ _ _ e.rewrite-answer.ensures) e.if-answer-ne0.false).0
+channels_size-requires c = (counts _ _ _ _ (plan_answer _ _ _ _ c.rewrite-answer.ensures) c.if-answer-ne0.false).0
 
 pub overflow_add-start : goal.overflow_add-start
 overflow_add-start c =
@@ -40,51 +38,38 @@ overflow_mul-length c =
 
 pub overflow_add-length : goal.overflow_add-length
 overflow_add-length c =
-    let z = c in
-    let e = planned z.before.before in
+    let e = planned c.before.before in
     let r = plan_answer _ _ _ _ e.rewrite-answer.ensures in
     omega (
       arith,
       version_within e.args.version,
-      z.version_size-first.ensures,
-      z.channels_size.ensures,
+      c.version_size-first.ensures,
+      c.channels_size.ensures,
       (counts _ _ _ _ r e.if-answer-ne0.false).1,
       channels_few _ _ _ _ r e.if-answer-ne0.false,
     )
 
 pub returns-then-out-length : goal.returns-then-out-length
 returns-then-out-length c =
-    let z = c in
-    let e = planned z.before.before.before in
-    write_short _ _ _ _ (plan_answer _ _ _ _ e.rewrite-answer.ensures) e.if-answer-ne0.false _ _ _ z.version_size-first.ensures z.channels_size.ensures c.if-out-length.true
+    let e = planned c.before.before.before in
+    write_short _ _ _ _ (plan_answer _ _ _ _ e.rewrite-answer.ensures) e.if-answer-ne0.false _ _ _ c.version_size-first.ensures c.channels_size.ensures c.if-out-length.true
 
 pub write_channels-requires : goal.write_channels-requires
 write_channels-requires c =
-    let v = c in
-    let h = v in
-    let z = h in
-    let e = planned z.before.before.before.before.before.before.before in
-    ((counts _ _ _ _ (plan_answer _ _ _ _ e.rewrite-answer.ensures) e.if-answer-ne0.false).0, omega (arith, z.channels_size.ensures, v.write_version.auto.out, h.if-out-length.false))
+    let e = planned c.before.before.before.before.before.before.before in
+    ((counts _ _ _ _ (plan_answer _ _ _ _ e.rewrite-answer.ensures) e.if-answer-ne0.false).0, omega (arith, c.channels_size.ensures, c.write_version.auto.out, c.if-out-length.false))
 
 pub write_steps-requires : goal.write_steps-requires
 write_steps-requires c =
-    let w = c in
-    let v = w in
-    let h = v in
-    let e = planned h.before.before.before.before.before.before.before.before.before.before.before in
+    let e = planned c.before.before.before.before.before.before.before.before.before.before.before in
     let r = plan_answer _ _ _ _ e.rewrite-answer.ensures in
-    ((counts _ _ _ _ r e.if-answer-ne0.false).1, omega (arith, steps_size _ _ _ _ r e.if-answer-ne0.false, w.write_channels.auto.out, v.write_version.auto.out, h.if-out-length.false))
+    ((counts _ _ _ _ r e.if-answer-ne0.false).1, omega (arith, steps_size _ _ _ _ r e.if-answer-ne0.false, c.write_channels.auto.out, c.write_version.auto.out, c.if-out-length.false))
 
 pub returns : goal.returns
 returns c =
-    let s = c in
-    let w = s in
-    let v = w in
-    let h = v in
-    let z = h in
-    let e = planned z.before.before.before.before.before.before.before.before.before.before.before.before.before.before.before in
+    let e = planned c.before.before.before.before.before.before.before.before.before.before.before.before.before.before.before in
     let r = plan_answer _ _ _ _ e.rewrite-answer.ensures in (
-      write_length _ _ _ _ r e.if-answer-ne0.false _ _ _ z.version_size-first.ensures z.channels_size.ensures h.if-out-length.false,
-      write_bytes _ _ _ _ r e.if-answer-ne0.false _ _ _ z.version_size-first.ensures z.channels_size.ensures h.if-out-length.false _ _ _ v.write_version.ensures
-          w.write_channels.ensures s.write_steps.ensures,
+      write_length _ _ _ _ r e.if-answer-ne0.false _ _ _ c.version_size-first.ensures c.channels_size.ensures c.if-out-length.false,
+      write_bytes _ _ _ _ r e.if-answer-ne0.false _ _ _ c.version_size-first.ensures c.channels_size.ensures c.if-out-length.false _ _ _ c.write_version.ensures
+          c.write_channels.ensures c.write_steps.ensures,
     )

@@ -1,15 +1,14 @@
 -- `write_steps` meets its contract. The loop's invariant: the fields so far are in the slice, and those that are left complete them
 -- (proofs/Placed.antt). Assumes nothing.
 use mathlib.Core.Path.{◌≡◌, ap, ◌∙◌}
-use Prim.Native.Nat.{◌+◌, ◌-◌, ◌≤◌, min}
+use Prim.Native.Nat.{◌+◌, ◌≤◌, min}
 use native.Mathlib.Omega.{arith}
 use borrow.Author.Rules.{rules}
 use lib.ListN.{length}
 use Rattle.list.specs.Lists.{max_steps}
-use Rattle.plan.specs.Steps as S
 use Rattle.plan.specs.Steps.{step_at}
-use Rattle.record.specs.Bytes.{step_size, joined, step_field, step_fields}
-use Rattle.record.proofs.Placed.{Putting, putting_none, putting_length, putting_all, putting_room, putting_more, steps_all, put_placed}
+use Rattle.record.specs.Bytes.{step_size, joined, step_field}
+use Rattle.record.proofs.Placed.{putting_none, putting_length, putting_all, putting_room, putting_more, steps_all, put_placed}
 use Rattle.record.proofs.write_steps.Goals as goal
 use Rattle.record.proofs.write_steps.Lts as Lts
 use Rattle.record.proofs.write_steps.Reads as reads
@@ -27,35 +26,24 @@ loop-k-init c =
 room : (c : After-put_bytes-arg-1) → c.loop-k.at + length c.step_field-field.result
     ≤ length c.loop-k.out
 room c =
-    let f = c in
-    let q = f in
-    putting_room step_field (step_at q.args.steps) _ _ q.args.start _ q.requires.1
-    _ _ _ q.loop-k.invariant f.loop-k-test.true _ (f.step_field-field.ensures ∙ ap step_field f.step.ensures)
+    putting_room step_field (step_at c.args.steps) _ _ c.args.start _ c.requires.1
+    _ _ _ c.loop-k.invariant c.loop-k-test.true _ (c.step_field-field.ensures ∙ ap step_field c.step.ensures)
 
 pub overflow_add-at : goal.overflow_add-at
 overflow_add-at c =
-    let a = c in
-    let q = a in
-    let n : length a.step_field-field.result ≡ step_size = search rules in
-    let m = putting_length step_field (step_at q.args.steps) _ _ q.args.start _ q.requires.1 _ _ _ q.loop-k.invariant in
-    omega (arith, room a.before.before.before.before)
+    let n : length c.step_field-field.result ≡ step_size = search rules in
+    let m = putting_length step_field (step_at c.args.steps) _ _ c.args.start _ c.requires.1 _ _ _ c.loop-k.invariant in
+    omega (arith, room c.before.before.before.before)
 
 pub loop-k-preserved : goal.loop-k-preserved
 loop-k-preserved c =
-    let a = c in
-    let f = a in
-    let q = f in
-    putting_more step_field (step_at q.args.steps) _ _ q.args.start _ q.requires.1
-    _ _ _ q.loop-k.invariant f.loop-k-test.true _ (f.step_field-field.ensures ∙ ap step_field f.step.ensures) _ _ (c.put_bytes.ensures ∙ put_placed _ _ _ (room a.before.before.before.before)) (search rules)
+    putting_more step_field (step_at c.args.steps) _ _ c.args.start _ c.requires.1
+    _ _ _ c.loop-k.invariant c.loop-k-test.true _ (c.step_field-field.ensures ∙ ap step_field c.step.ensures) _ _ (c.put_bytes.ensures ∙ put_placed _ _ _ (room c.before.before.before.before)) (search rules)
 
 pub shape_of-out : goal.shape_of-out
 shape_of-out c =
-    let q = c in
-    let s = q in
-    putting_length step_field (step_at s.args.steps) _ _ _ _ (omega (arith, s.requires.1)) _ _ _ q.loop-k.invariant
+    putting_length step_field (step_at c.args.steps) _ _ _ _ (omega (arith, c.requires.1)) _ _ _ c.loop-k.invariant
 
 pub returns : goal.returns
 returns c =
-    let q = c in
-    let s = q in
-    putting_all step_field (step_at s.args.steps) _ _ _ _ (omega (arith, s.requires.1)) _ _ _ q.loop-k.invariant c.loop-k-test.false
+    putting_all step_field (step_at c.args.steps) _ _ _ _ (omega (arith, c.requires.1)) _ _ _ c.loop-k.invariant c.loop-k-test.false

@@ -1,15 +1,10 @@
 -- `write_steps` meets its contract. The loop's invariant: the fields so far are in the slice, and those that are left complete them
 -- (proofs/Placed.antt). Assumes nothing.
-use mathlib.Core.Path.{◌≡◌, ap, ◌∙◌}
-use Prim.Native.Nat.{◌+◌, ◌-◌, ◌≤◌, min}
-use native.Mathlib.Omega.{arith}
-use borrow.Author.Rules.{rules}
-use lib.ListN.{length}
-use Rattle.list.specs.Lists.{max_steps}
+use Prim.Native.Nat.{◌-◌}
 use Rattle.plan.specs.Steps as S
 use Rattle.plan.specs.Steps.{step_at}
-use Rattle.record.specs.Bytes.{step_size, joined, step_field, step_fields}
-use Rattle.record.proofs.Placed.{Putting, putting_none, putting_length, putting_all, putting_room, putting_more, steps_all, put_placed}
+use Rattle.record.specs.Bytes.{step_field, step_fields}
+use Rattle.record.proofs.Placed.{Putting}
 use Rattle.record.proofs.write_steps.Given as goal
 
 abbrev pub invariant-loop-k : goal.invariant-loop-k

@@ -10,7 +10,6 @@ use Rattle.record.specs.Bytes.{version_tag, version_length, version_size, low, h
 use Rattle.record.proofs.Placed.{put_field, placed_none}
 use Rattle.record.proofs.write_version.Goals as goal
 
-
 -- the field's bytes
 made : (version a b : ℕ) → version ≡ house_version → a ≡ low version_length → b ≡ high version_length
     → version_tag ∷ a ∷ b ∷ house_version ∷ [] ≡ version_field version
@@ -20,12 +19,8 @@ made version a b e ea eb = rw (ea, eb, e)
 pub returns-then-version-eq-HOUSE_VERSION : goal.returns-then-version-eq-HOUSE_VERSION
 unfolding version_field
 returns-then-version-eq-HOUSE_VERSION c =
-    let h = c in
-    let l = h in
-    let t = l in
-    let e = made _ _ _ t.if-version-eq-HOUSE_VERSION.true l.low.ensures h.high.ensures in
-    let q = t in
-    (put_field q.args.out.now 0 (version_field q.args.version) (omega (arith, q.requires)) _ _ version_size e (search rules) c.put_bytes.ensures).1
+    let e = made _ _ _ c.if-version-eq-HOUSE_VERSION.true c.low.ensures c.high.ensures in
+    (put_field c.args.out.now 0 (version_field c.args.version) (omega (arith, c.requires)) _ _ version_size e (search rules) c.put_bytes.ensures).1
 
 pub returns-else-version-eq-HOUSE_VERSION : goal.returns-else-version-eq-HOUSE_VERSION
 unfolding version_field

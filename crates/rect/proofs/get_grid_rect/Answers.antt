@@ -4,8 +4,6 @@ use mathlib.Core.Bool.{true, false}
 use mathlib.Core.Path.{◌≡◌, sym, ◌∙◌}
 use Prim.Native.Nat.{ℕ, ◌≤◌, ◌<◌}
 use native.Mathlib.Omega.{arith}
-use borrow.Author.Rules.{rules}
-use borrow.Author.Tests.{not-true, not-false}
 use Rattle.channel.specs.Channel.{is_allowed}
 use Rattle.rect.specs.declared.GridRect.{GridRect}
 use Rattle.rect.specs.Rect.{lf_dimension, group_allowed, by_kinds, rect_of}
@@ -32,12 +30,10 @@ four c = sym c.is_allowed.ensures ∙ c.if-not-is_allowed.false
 thirteen : (c : goal.Else-not-is_group_allowed) → group_allowed (entry c).args.group ≡ true
 thirteen c = sym c.is_group_allowed.ensures ∙ c.if-not-is_group_allowed.false
 
-
 -- what a tile asks
 passed : (c : goal.Else-not-is_group_allowed) (dimension : ℕ) → dimension ≤ lf_dimension (entry c).args.group
     → Dimensions dimension (entry c).args.group × (is_allowed (entry c).args.channel ≡ true)
 passed c dimension h = (record { within = h; small = group_small (entry c).args.group (thirteen c) }, four c.before.before)
-
 
 -- the result of the arm of the pair (p, q)
 arm : (c : goal.Else-not-is_group_allowed) (p q : ℕ) (r : GridRect) →
@@ -51,16 +47,14 @@ arm c p q r l n e =
 pub returns-then-not-is_allowed : goal.returns-then-not-is_allowed
 unfolding rect_of
 returns-then-not-is_allowed c =
-    let asked = c in
-    let no : is_allowed asked.args.channel ≡ false = sym asked.is_allowed.ensures ∙ c.if-not-is_allowed.true in
+    let no : is_allowed c.args.channel ≡ false = sym c.is_allowed.ensures ∙ c.if-not-is_allowed.true in
     rw no c.refused.ensures
 
 pub returns-then-not-is_group_allowed : goal.returns-then-not-is_group_allowed
 unfolding rect_of
 returns-then-not-is_group_allowed c =
-    let asked = c in
-    let no : group_allowed asked.args.group ≡ false = sym asked.is_group_allowed.ensures ∙ c.if-not-is_group_allowed.true in
-    rw (four asked.before.before.before, no) c.refused-then-not-is_group_allowed.ensures
+    let no : group_allowed c.args.group ≡ false = sym c.is_group_allowed.ensures ∙ c.if-not-is_group_allowed.true in
+    rw (four c.before.before.before, no) c.refused-then-not-is_group_allowed.ensures
 
 pub overflow_mul-lf : goal.overflow_mul-lf
 overflow_mul-lf c = omega (arith, group_small (entry c).args.group (thirteen c))
@@ -106,8 +100,7 @@ returns-in-514 c = arm c.before.before 2 2 c.tile-in-514.result (omega arith) c.
 
 pub returns-in_default : goal.returns-in_default
 returns-in_default c =
-    let asked = c in
-    let a = (entry asked.before.before).args in
+    let a = (entry c.before.before).args in
     let rest = c.in_default.in_default-own.rest in
     let unnamed : Chosen.Unnamed (Chosen.number a.output a.stored) = record {
       none = rest.0.0.0.0.0.1;
@@ -117,5 +110,5 @@ returns-in_default c =
       hf_on_lf = rest.0.1;
       hf_on_hf = rest.1;
     } in
-    Chosen.last_arm a.channel a.output a.stored a.group a.gx a.gy (four asked.before.before.before.before) (thirteen asked.before.before)
+    Chosen.last_arm a.channel a.output a.stored a.group a.gx a.gy (four c.before.before.before.before) (thirteen c.before.before)
     c.refused-in_default.result unnamed c.refused-in_default.ensures

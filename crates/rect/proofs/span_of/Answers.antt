@@ -4,7 +4,6 @@ use Prim.Native.Nat.{◌≤◌}
 use native.Mathlib.Nat.{mul-le-mul_left}
 use native.Mathlib.Omega.{arith}
 use lib.Pow.{shr_le, shr_mono}
-use borrow.Author.Rules.{rules}
 use Rattle.rect.specs.Rect.{lf_dimension}
 use Rattle.rect.specs.Parts.{max_group}
 use Rattle.rect.proofs.span_of.Goals as goal
@@ -24,13 +23,12 @@ returns-then-size-eq0 c =
 
 pub start_in-requires : goal.start_in-requires
 start_in-requires c =
-    let entry = c in omega (arith, shr_mono entry.args.shift entry.requires.0.within)
+    omega (arith, shr_mono c.args.shift c.requires.0.within)
 
 pub returns : goal.returns
 returns c =
-    let sized = c in
-    let side = sized.tile_side-tile.ensures in
+    let side = c.tile_side-tile.ensures in
     record {
-      sized = rw side at sized.size_from-size.ensures;
+      sized = rw side at c.size_from-size.ensures;
       starts = λ h. rw (side, c.tile_side-lf.ensures) at c.start_in.ensures;
     }

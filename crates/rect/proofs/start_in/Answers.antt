@@ -1,5 +1,4 @@
 -- `start_in` meets its contract, by cases on the rule. Assumes nothing.
-use borrow.Author.Rules.{rules}
 use Rattle.rect.proofs.start_in.Goals as goal
 
 pub returns-in-WithinLf : goal.returns-in-WithinLf

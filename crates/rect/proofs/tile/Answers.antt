@@ -2,7 +2,6 @@
 -- (proofs/Tiles.antt). Assumes nothing.
 use mathlib.Core.Bool.{true, false}
 use mathlib.Core.Path.{◌≡◌, sym, ◌∙◌}
-use borrow.Author.Rules.{rules}
 use Rattle.channel.specs.Channel.{is_meta}
 use Rattle.rect.specs.Rect.{tile_unless_meta}
 use Rattle.rect.proofs.Allowed.{shifts_small}
@@ -20,23 +19,18 @@ returns-then-is_meta c =
 
 pub span_of-across-requires : goal.span_of-across-requires
 span_of-across-requires c =
-    let entry = c in (entry.requires.0, (shifts_small entry.args.channel (plain c) entry.requires.1).0)
+    (c.requires.0, (shifts_small c.args.channel (plain c) c.requires.1).0)
 
 pub span_of-down-requires : goal.span_of-down-requires
 span_of-down-requires c =
-    let entry = c in
-    (entry.requires.0, (shifts_small entry.args.channel (plain c.before) entry.requires.1).1)
+    (c.requires.0, (shifts_small c.args.channel (plain c.before) c.requires.1).1)
 
 pub returns-then-across-down : goal.returns-then-across-down
 returns-then-across-down c =
-    let spans = c in
-    let across = spans in
     c.no_tile.ensures
-    ∙ Tiles.empty across.args.channel (plain across.before.before.before.before.before.before) across.span_of-across.ensures spans.span_of-down.ensures
+    ∙ Tiles.empty c.args.channel (plain c.before.before.before.before.before.before) c.span_of-across.ensures c.span_of-down.ensures
     c.if-across-down.true
 
 pub returns : goal.returns
 returns c =
-    let spans = c in
-    let across = spans in
-    Tiles.filled across.args.channel (plain across.before.before.before.before.before) across.span_of-across.ensures spans.span_of-down.ensures c.if-across-down.false
+    Tiles.filled c.args.channel (plain c.before.before.before.before.before) c.span_of-across.ensures c.span_of-down.ensures c.if-across-down.false

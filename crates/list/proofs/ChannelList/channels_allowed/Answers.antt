@@ -29,28 +29,21 @@ turn c = c.before.before.before.before.before
 
 pub returns-then-is_allowed-plain : goal.returns-then-is_allowed-plain
 returns-then-is_allowed-plain c =
-    let b = c in
-    let v = b in
-    let t = turn v.before.before.before in
-    let q = t in
-    allowed_stop (channel_at q.args.self) q.loop-k.k _ q.loop-k.plain b.is_allowed.result b.is_meta-meta.result v.entry_of-c.result
-    t.loop-k-test.true v.entry_of-c.ensures b.is_allowed.ensures b.is_meta-meta.ensures c.if-is_allowed-plain.true
-    ∙ q.loop-k.invariant.1
+    let t = turn c.before.before.before in
+    allowed_stop (channel_at t.args.self) t.loop-k.k _ t.loop-k.plain c.is_allowed.result c.is_meta-meta.result c.entry_of-c.result
+    t.loop-k-test.true c.entry_of-c.ensures c.is_allowed.ensures c.is_meta-meta.ensures c.if-is_allowed-plain.true
+    ∙ t.loop-k.invariant.1
 
 pub loop-k-preserved : goal.loop-k-preserved
 loop-k-preserved c =
-    let b = c in
-    let v = b in
-    let t = turn v.before.before.before in
-    let q = t in (
+    let t = turn c.before.before.before in (
       omega arith,
-      allowed_next (channel_at q.args.self) q.loop-k.k _ q.loop-k.plain b.is_allowed.result b.is_meta-meta.result v.entry_of-c.result
-          t.loop-k-test.true v.entry_of-c.ensures b.is_allowed.ensures b.is_meta-meta.ensures c.if-is_allowed-plain.false
-          ∙ q.loop-k.invariant.1,
+      allowed_next (channel_at t.args.self) t.loop-k.k _ t.loop-k.plain c.is_allowed.result c.is_meta-meta.result c.entry_of-c.result
+          t.loop-k-test.true c.entry_of-c.ensures c.is_allowed.ensures c.is_meta-meta.ensures c.if-is_allowed-plain.false
+          ∙ t.loop-k.invariant.1,
     )
 
 pub returns : goal.returns
 returns c =
-    let q = c in
-    sym (allowed_end q.loop-k.plain)
-    ∙ rw (table_none (channel_at q.args.self) q.loop-k.k q.len-count.result c.loop-k-test.false) at q.loop-k.invariant.1
+    sym (allowed_end c.loop-k.plain)
+    ∙ rw (table_none (channel_at c.args.self) c.loop-k.k c.len-count.result c.loop-k-test.false) at c.loop-k.invariant.1

@@ -10,7 +10,5 @@ returns-then-answer-ne0 c = let e = c.judge-answer.ensures in e ∙ sym (list_an
 
 pub returns : goal.returns
 returns c =
-    let e = c in
-    let b = e in
-    let a = b.args in
-    c.judge_step.ensures ∙ ap (judge_step a.step) (channels_lent a.self) ∙ sym (step_answer_lem _ _ (sym b.judge-answer.ensures ∙ e.if-answer-ne0.false))
+    let a = c.args in
+    c.judge_step.ensures ∙ ap (judge_step a.step) (channels_lent a.self) ∙ sym (step_answer_lem _ _ (sym c.judge-answer.ensures ∙ c.if-answer-ne0.false))

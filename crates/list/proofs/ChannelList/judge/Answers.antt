@@ -11,28 +11,25 @@ returns-then-not-count c = rw c.if-not-count.true
 pub returns-then-not-channels_allowed : goal.returns-then-not-channels_allowed
 unfolding judge_list count_allowed
 returns-then-not-channels_allowed c =
-    let b = c in
     rw (
-      b.if-not-count.false,
-      no b.channels_allowed.ensures c.if-not-channels_allowed.true,
+      c.if-not-count.false,
+      no c.channels_allowed.ensures c.if-not-channels_allowed.true,
     )
 
 pub returns-then-total-gt-MAX_SAMPLES : goal.returns-then-total-gt-MAX_SAMPLES
 unfolding judge_list count_allowed
 returns-then-total-gt-MAX_SAMPLES c =
-    let b = c in
     rw (
-      b.if-not-count.false,
-      yes b.channels_allowed.ensures c.if-not-channels_allowed.false,
+      c.if-not-count.false,
+      yes c.channels_allowed.ensures c.if-not-channels_allowed.false,
       counted_over _ c.total.result c.total.ensures c.if-total-gt-MAX_SAMPLES.true,
     )
 
 pub returns : goal.returns
 unfolding judge_list count_allowed
 returns c =
-    let b = c in
     rw (
-      b.if-not-count.false,
-      yes b.channels_allowed.ensures c.if-not-channels_allowed.false,
+      c.if-not-count.false,
+      yes c.channels_allowed.ensures c.if-not-channels_allowed.false,
       counted_within _ c.total.result c.total.ensures c.if-total-gt-MAX_SAMPLES.false,
     )

@@ -5,13 +5,11 @@ use Rattle.list.proofs.ChannelList.step.Goals as goal
 
 pub returns-then-answer-ne0 : goal.returns-then-answer-ne0
 returns-then-answer-ne0 c =
-    let b = c in
-    let a = b.args in
-    let e = b.judge-answer.ensures in
+    let a = c.args in
+    let e = c.judge-answer.ensures in
     (λ i. record { answer = e i; list = a.self }) ∙ sym (list_refused a.step a.self (λ z. c.if-answer-ne0.true (e ∙ z)))
 
 pub returns : goal.returns
 returns c =
-    let b = c in
-    let a = b.args in
-    c.step_on.ensures ∙ sym (list_passed a.step a.self (sym b.judge-answer.ensures ∙ c.if-answer-ne0.false))
+    let a = c.args in
+    c.step_on.ensures ∙ sym (list_passed a.step a.self (sym c.judge-answer.ensures ∙ c.if-answer-ne0.false))

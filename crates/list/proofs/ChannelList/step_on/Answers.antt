@@ -25,23 +25,18 @@ answered c = let a = (start c).args in c.judge_step-answer.ensures ∙ ap (judge
 
 pub returns-then-answer-ne0 : goal.returns-then-answer-ne0
 returns-then-answer-ne0 c =
-    let b = c in
-    let a = (start b.before).args in
-    let e = answered b.before in
+    let a = (start c.before).args in
+    let e = answered c.before in
     (λ i. record { answer = e i; list = a.self }) ∙ sym (on_refused a.step a.self (λ z. c.if-answer-ne0.true (e ∙ z)))
 
 pub next_list-requires : goal.next_list-requires
 next_list-requires c =
-    let n = c in
-    let b = n in
-    let a = (start b.before.before.before.before.before.before).args in
-    step_accepted a.step (channels a.self) (sym (answered b.before.before.before.before.before.before) ∙ n.if-answer-ne0.false)
+    let a = (start c.before.before.before.before.before.before).args in
+    step_accepted a.step (channels a.self) (sym (answered c.before.before.before.before.before.before) ∙ c.if-answer-ne0.false)
 
 pub returns : goal.returns
 returns c =
-    let n = c in
-    let b = n in
-    let a = (start b.before.before.before.before.before.before.before).args in
+    let a = (start c.before.before.before.before.before.before.before).args in
     let e = c.next_list.ensures in
     (λ i. record { answer = 0; list = e i })
-    ∙ sym (on_taken a.step a.self (sym (answered b.before.before.before.before.before.before.before) ∙ n.if-answer-ne0.false))
+    ∙ sym (on_taken a.step a.self (sym (answered c.before.before.before.before.before.before.before) ∙ c.if-answer-ne0.false))

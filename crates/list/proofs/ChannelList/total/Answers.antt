@@ -49,7 +49,6 @@ loop-k-preserved c = (omega arith, omega (arith, c.if-sum-more.false, (turn c.be
 pub returns : goal.returns
 unfolding counted_total
 returns c =
-    let q = c in
-    let e = table_none (Lists.channel_at q.args.self) q.loop-k.k q.len-count.result c.loop-k-test.false in
-    let s = rw e at q.loop-k.invariant.2 in
-    omega (arith, q.loop-k.invariant.1)
+    let e = table_none (Lists.channel_at c.args.self) c.loop-k.k c.len-count.result c.loop-k-test.false in
+    let s = rw e at c.loop-k.invariant.2 in
+    omega (arith, c.loop-k.invariant.1)

@@ -1,5 +1,4 @@
 -- `push` meets its contract: the arrays with one entry set are what `pushed` states. Assumes nothing.
-use borrow.Author.Rules.{rules}
 use Rattle.plan.specs.Adding.{pushed}
 use Rattle.plan.proofs.Steps.push.Goals as goal
 
