@@ -152,17 +152,13 @@ fn built() -> Option<&'static OsString> {
 fn copy(name: &str) -> Place {
     let tree = Place::new(name);
     fs::create_dir_all(tree.join("target/bin")).expect("a directory");
-    for part in [
-        "crates",
-        "crates.txt",
-        "squeeze-list",
-        "target/stamp",
-        "target/bin/squeeze_list",
-    ] {
-        let (from, to) = (repository().join(part), tree.join(part));
-        let copied = Command::new("cp").arg("-R").args([from, to]).status();
-        assert!(copied.expect("cp starts").success(), "{part}");
-    }
+    // Not what the toolchain keeps of each crate, which is large.
+    let parts = "crates crates.txt squeeze-list target/bin/squeeze_list";
+    let command = format!("tar -c --exclude=out {parts} | tar -x -C \"$COPY\"");
+    let path = env::var_os("PATH").expect("a search path");
+    let mut copied = shell(repository(), &path, &command);
+    let status = copied.env("COPY", &*tree).status();
+    assert!(status.expect("sh starts").success(), "{parts}");
     fs::write(tree.join("record"), RECORD).expect("a record");
     tree
 }
@@ -228,20 +224,14 @@ fn ten_pairs_started_together() {
     assert!(stamp.exists());
 }
 
-/// The toolchain builds nothing that it has proved before.
+/// The toolchain builds again what it has proved before.
 #[test]
 fn a_program_that_is_gone() {
     let Some(path) = built() else { return };
     let tree = copy("gone");
     fs::remove_file(tree.join("target/bin/squeeze_list")).expect("a program");
-    let output = run(&tree, path, "./squeeze-list < record");
-    let said = text(&output.stderr);
-    assert_eq!(
-        (output.status.code(), text(&output.stdout)),
-        (Some(1), String::new())
-    );
-    assert!(said.contains("start again"), "{said}");
-    assert!(!tree.join("target/squeeze-list.stamp").exists());
+    printed(run(&tree, path, "./squeeze-list < record"), LISTING);
+    assert!(tree.join("target/squeeze-list.stamp").exists());
 }
 
 /// The program without its launcher, on standard input and output.
@@ -296,7 +286,7 @@ fn played(name: &str) -> (Place, OsString) {
         fs::create_dir_all(tree.join(dir)).expect("a directory");
     }
     fs::copy(repository().join("squeeze-list"), tree.join("squeeze-list")).expect("a copy");
-    fs::write(tree.join("crates.txt"), "one:\nsqueeze_list: one io libc\n").expect("a file");
+    fs::write(tree.join("crates.txt"), "one:\nsqueeze_list: one std\n").expect("a file");
     for file in [
         "crates/one/src/lib.rt",
         "crates/squeeze_list/src/main.rt",
@@ -311,15 +301,16 @@ fn played(name: &str) -> (Place, OsString) {
          echo \"$@\" >> calls\n\
          mkdir alone || exit 1\n\
          echo 'what the checker says'\n\
-         echo 'rt: one proved (3 s)'\n\
+         echo 'rt: chose --jobs 2 for one'\n\
+         echo 'logic=proved functions=1'\n\
          k=0; while [ -f wait ] && [ $k -lt 100 ]; do sleep 0.1; k=$((k + 1)); done\n\
          sleep 0.1\n\
-         echo 'rt: two proved (unchanged since it was last proved)'\n\
-         echo 'rt: squeeze_list proved (4 s)'\n\
+         echo 'rt: chose --jobs 2 for squeeze_list'\n\
+         echo 'logic=proved functions=2'\n\
          rmdir alone\n\
          [ ! -f fails ] || { echo 'rt: FAILED: one' >&2; exit 1; }\n\
-         mkdir -p target/bin && cp program target/bin/squeeze_list\n\
-         echo 'rt: ok, 3 crates proved'\n",
+         [ -f builds_nothing ] || cp program crates/squeeze_list/out/squeeze_list\n\
+         echo 'what the program prints'\n",
     );
     let path = env::var_os("PATH").expect("a search path");
     let dirs = [tree.join("bin")]
@@ -329,11 +320,11 @@ fn played(name: &str) -> (Place, OsString) {
     (tree, path)
 }
 
-/// How often `rt` was called, each time to check the program.
+/// How often `rt` was called, each time to prove and run the program.
 fn calls(tree: &Path) -> usize {
     let calls = fs::read_to_string(tree.join("calls")).unwrap_or_default();
     assert!(
-        calls.lines().all(|call| call == "check squeeze_list"),
+        calls.lines().all(|call| call == "run squeeze_list"),
         "{calls}"
     );
     calls.lines().count()
@@ -359,10 +350,10 @@ fn crate_by_crate_while_it_proves() {
         line(),
         "squeeze-list: proving the program's crates: one squeeze_list"
     );
-    assert_eq!(line(), "squeeze-list: one proved (3 s)");
+    assert_eq!(line(), "squeeze-list: one proved");
     // The toolchain goes on only now: the line came while it was at work.
     fs::remove_file(tree.join("wait")).expect("it waited");
-    assert_eq!(line(), "squeeze-list: squeeze_list proved (4 s)");
+    assert_eq!(line(), "squeeze-list: squeeze_list proved");
     assert!(lines.next().is_none());
     let mut listed = String::new();
     child
@@ -395,6 +386,20 @@ fn a_proof_that_fails() {
         run(&tree, &path, "./squeeze-list < record"),
         &sum(&tree, b"text\n"),
     );
+}
+
+#[test]
+fn a_program_that_is_not_built() {
+    let (tree, path) = played("unbuilt");
+    fs::write(tree.join("builds_nothing"), "").expect("a file");
+    let output = run(&tree, &path, "./squeeze-list < record");
+    let said = text(&output.stderr);
+    assert_eq!(
+        (output.status.code(), text(&output.stdout)),
+        (Some(1), String::new())
+    );
+    assert!(said.contains("start again"), "{said}");
+    assert!(!tree.join("target/squeeze-list.stamp").exists());
 }
 
 #[test]
@@ -494,7 +499,7 @@ fn what_is_missing() {
     let bin = tree.join("few");
     fs::create_dir(&bin).expect("a directory");
     for tool in [
-        "bash", "cat", "find", "head", "mkdir", "mv", "readlink", "sed", "sh",
+        "bash", "cat", "cp", "find", "head", "mkdir", "mv", "readlink", "sed", "sh",
     ] {
         let found = env::split_paths(&path)
             .map(|dir| dir.join(tool))
