@@ -2,12 +2,16 @@
 // Rust's answers and of cases by the papers' rules, and says how it is laid out).
 // Compares answers and whole arrays, and prints how many cases of each kind there
 // were and how many came out right.
+#![tactic(auto)]
+
 ghost use Rattle.std.specs.Prelude.{◌+◌, ◌<◌, ◌≤◌};
 
 use list::{ChannelList, Step};
 use plan::Steps;
 use replay::{read_case, read_word};
 use samples::{sample_at, word_at};
+use std::io;
+use std::io::Read;
 
 // The kinds of cases.
 const STEP: usize = 1;
@@ -219,38 +223,40 @@ fn agrees(bytes: &[u8], at: usize, kind: usize) -> bool
 }
 
 // Replays the next cases of standard input; how many are right.
-fn replay(cases: u32, kind: usize) -> u64 {
+fn replay<R: Read>(input: &mut R, cases: u32, kind: usize) -> io::Result<u64> {
     let mut bytes = [0u8; CASE];
     let mut right = 0u64;
     for _ in 0..cases {
-        let n = read_case(&mut bytes);
+        let n = read_case(input, &mut bytes)?;
         if agrees(&bytes[0..n], 0, kind) {
             right += 1;
         }
     }
-    right
+    Ok(right)
 }
 
 // Replays the cases of the next source and kind and says how many are right.
-fn say(name: &[u8], kind: usize) {
-    let cases = read_word();
-    replay::say(name, cases as u64, replay(cases, kind));
+fn say<R: Read>(rt: &impl Print, input: &mut R, name: &str, kind: usize) -> io::Result<()> {
+    let cases = read_word(input)?;
+    replay::say(rt, name, cases as u64, replay(input, cases, kind)?)
 }
 
-fn main() {
-    say(b"Rust, steps ", STEP);
-    say(b"Rust, plans ", PLAN);
-    say(b"Rust, default plans ", DEFAULT);
-    say(b"Rust, coarse channels ", COARSE);
-    say(b"own, steps ", STEP);
-    say(b"own, plans ", PLAN);
-    say(b"own, default plans ", DEFAULT);
-    say(b"own, coarse counts ", COARSE);
-    say(b"own, steps meant ", MEANT);
-    say(b"versions, plans ", PLAN);
-    say(b"versions, default plans ", DEFAULT);
-    say(b"versions, coarse counts ", COARSE);
-    say(b"versions, steps meant ", MEANT);
-    say(b"origins, steps ", STEP);
-    say(b"origins, plans ", PLAN);
+fn main(rt: HostRuntime) -> io::Result<()> {
+    let mut input = rt.reader();
+    say(&rt, &mut input, "Rust, steps ", STEP)?;
+    say(&rt, &mut input, "Rust, plans ", PLAN)?;
+    say(&rt, &mut input, "Rust, default plans ", DEFAULT)?;
+    say(&rt, &mut input, "Rust, coarse channels ", COARSE)?;
+    say(&rt, &mut input, "own, steps ", STEP)?;
+    say(&rt, &mut input, "own, plans ", PLAN)?;
+    say(&rt, &mut input, "own, default plans ", DEFAULT)?;
+    say(&rt, &mut input, "own, coarse counts ", COARSE)?;
+    say(&rt, &mut input, "own, steps meant ", MEANT)?;
+    say(&rt, &mut input, "versions, plans ", PLAN)?;
+    say(&rt, &mut input, "versions, default plans ", DEFAULT)?;
+    say(&rt, &mut input, "versions, coarse counts ", COARSE)?;
+    say(&rt, &mut input, "versions, steps meant ", MEANT)?;
+    say(&rt, &mut input, "origins, steps ", STEP)?;
+    say(&rt, &mut input, "origins, plans ", PLAN)?;
+    Ok(())
 }

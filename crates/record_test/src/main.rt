@@ -5,6 +5,8 @@
 // and every number of a layout, and each call that may be short of room is made
 // with a slice that is one too short too. Prints, for each kind of case, how many
 // there were and how many came out right.
+#![tactic(auto)]
+
 ghost use Rattle.std.specs.Prelude.{◌+◌, ◌<◌, ◌≤◌, length};
 
 use list::ChannelList;
@@ -12,6 +14,8 @@ use listing::LISTING_ROOM;
 use numbers::REFUSED_LENGTH;
 use replay::{read_case, read_word, say};
 use samples::word_at;
+use std::io;
+use std::io::Read;
 
 // Room for a record or an input.
 const INPUT_ROOM: usize = 10_240;
@@ -296,40 +300,42 @@ fn agrees(is_record: bool, bytes: &[u8], text: &[u8], rows: &[u8]) -> bool {
 }
 
 // Replays the next cases of standard input; how many are right.
-fn replay(cases: u32, are_records: bool) -> u64 {
+fn replay<R: Read>(input: &mut R, cases: u32, are_records: bool) -> io::Result<u64> {
     let mut bytes = [0u8; INPUT_ROOM];
     let mut text = [0u8; LISTING_ROOM];
     let mut rows = [0u8; LAYOUT_ROOM];
     let mut right = 0u64;
     for _ in 0..cases {
-        let n = read_case(&mut bytes);
-        let m = read_case(&mut text);
-        let r = read_case(&mut rows);
+        let n = read_case(input, &mut bytes)?;
+        let m = read_case(input, &mut text)?;
+        let r = read_case(input, &mut rows)?;
         if agrees(are_records, &bytes[0..n], &text[0..m], &rows[0..r]) {
             right += 1;
         }
     }
-    right
+    Ok(right)
 }
 
 // Replays the cases of the next kind and says how many are right.
-fn kind(name: &[u8], are_records: bool) {
-    let cases = read_word();
-    say(name, cases as u64, replay(cases, are_records));
+fn kind<R: Read>(rt: &impl Print, input: &mut R, name: &str, are_records: bool) -> io::Result<()> {
+    let cases = read_word(input)?;
+    say(rt, name, cases as u64, replay(input, cases, are_records)?)
 }
 
-fn main() {
-    kind(b"printed ", true);
-    kind(b"cuts ", true);
-    kind(b"refusals ", true);
-    kind(b"order ", true);
-    kind(b"limits ", true);
-    kind(b"sizes ", true);
-    kind(b"metas ", true);
-    kind(b"plans ", true);
-    kind(b"bytes ", true);
-    kind(b"strips ", true);
-    kind(b"versions ", true);
-    kind(b"origins ", true);
-    kind(b"inputs ", false);
+fn main(rt: HostRuntime) -> io::Result<()> {
+    let mut input = rt.reader();
+    kind(&rt, &mut input, "printed ", true)?;
+    kind(&rt, &mut input, "cuts ", true)?;
+    kind(&rt, &mut input, "refusals ", true)?;
+    kind(&rt, &mut input, "order ", true)?;
+    kind(&rt, &mut input, "limits ", true)?;
+    kind(&rt, &mut input, "sizes ", true)?;
+    kind(&rt, &mut input, "metas ", true)?;
+    kind(&rt, &mut input, "plans ", true)?;
+    kind(&rt, &mut input, "bytes ", true)?;
+    kind(&rt, &mut input, "strips ", true)?;
+    kind(&rt, &mut input, "versions ", true)?;
+    kind(&rt, &mut input, "origins ", true)?;
+    kind(&rt, &mut input, "inputs ", false)?;
+    Ok(())
 }

@@ -1,15 +1,20 @@
 // Replays rectangle calls (tests/rects.py made `stdin`, of the published
 // Rust's answers and of document 01's rule). Prints how many there were and
 // how many came out right.
+#![tactic(auto)]
+
 use channel::Channel;
-use libc::STDIN_FILENO;
 use rect::GridRect;
 use samples::word_at;
+use std::io;
 
 // A case of `stdin`: the channel's width, height and two shifts, the output
 // kind, the stored kind, the group dimension and the position, then the
 // answer's five numbers, four bytes each.
 const CASE: usize = 56;
+
+// Room for the whole input.
+const INPUT: usize = 524_288;
 
 // The number at `at` as 16 bits; a larger one is the largest.
 fn position_at(bytes: &[u8], at: usize) -> u16 {
@@ -67,9 +72,15 @@ fn cases_agree(bytes: &[u8]) -> u64 {
     right
 }
 
-fn main() {
-    let mut buffer = [0u8; 524288];
-    let n = io::read_full(STDIN_FILENO, &mut buffer);
+// An array of this size has a function of its own: a proof that meets the zeros
+// themselves counts them one by one.
+fn input_room() -> [u8; INPUT] {
+    [0; INPUT]
+}
+
+fn main(rt: HostRuntime) -> io::Result<()> {
+    let mut buffer = input_room();
+    let n = reading::read_full(&mut rt.reader(), &mut buffer)?;
     let bytes = &buffer[..n];
-    replay::say(b"rects ", (n / CASE) as u64, cases_agree(bytes));
+    replay::say(&rt, "rects ", (n / CASE) as u64, cases_agree(bytes))
 }

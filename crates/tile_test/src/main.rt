@@ -3,10 +3,14 @@
 // lines' ends, each refusal, and squeezes uncut and cut. The answer, every sample of the output and the
 // samples around it are compared. Prints, for each kind of case, how many there
 // were and how many came out right.
+#![tactic(auto)]
+
 ghost use Rattle.std.specs.Prelude.{◌<◌, ◌≤◌, length};
 
 use replay::{read_case, read_word, say};
 use samples::{decode, fill, kept, same, word_at};
+use std::io;
+use std::io::Read;
 
 // The head of a case, by bytes: the answer, the direction, six sides of eight
 // bytes each, and the lengths of the slices (averages, residuals, next line,
@@ -143,38 +147,40 @@ fn agrees(case: &[u8], slices: &mut [i32], room: &mut [i32]) -> bool {
 }
 
 // Replays the next cases of standard input; how many are right.
-fn replay(cases: u32) -> u64 {
+fn replay<R: Read>(input: &mut R, cases: u32) -> io::Result<u64> {
     let mut space = [0u8; CASE];
     let mut slices = [0i32; ROOM];
     let mut room = [0i32; ROOM];
     let mut right = 0u64;
     for _ in 0..cases {
-        let n = read_case(&mut space);
+        let n = read_case(input, &mut space)?;
         if n == 0 {
-            return right;
+            return Ok(right);
         }
         if agrees(&space[0..n], &mut slices, &mut room) {
             right += 1;
         }
     }
-    right
+    Ok(right)
 }
 
 // Replays the cases of the next kind and says how many are right.
-fn kind(name: &[u8]) {
-    let cases = read_word();
-    say(name, cases as u64, replay(cases));
+fn kind<R: Read>(rt: &impl Print, input: &mut R, name: &str) -> io::Result<()> {
+    let cases = read_word(input)?;
+    say(rt, name, cases as u64, replay(input, cases)?)
 }
 
-fn main() {
-    kind(b"published ");
-    kind(b"table ");
-    kind(b"sizes ");
-    kind(b"ends ");
-    kind(b"limits ");
-    kind(b"areas ");
-    kind(b"misfits ");
-    kind(b"lengths ");
-    kind(b"order ");
-    kind(b"cuts ");
+fn main(rt: HostRuntime) -> io::Result<()> {
+    let mut input = rt.reader();
+    kind(&rt, &mut input, "published ")?;
+    kind(&rt, &mut input, "table ")?;
+    kind(&rt, &mut input, "sizes ")?;
+    kind(&rt, &mut input, "ends ")?;
+    kind(&rt, &mut input, "limits ")?;
+    kind(&rt, &mut input, "areas ")?;
+    kind(&rt, &mut input, "misfits ")?;
+    kind(&rt, &mut input, "lengths ")?;
+    kind(&rt, &mut input, "order ")?;
+    kind(&rt, &mut input, "cuts ")?;
+    Ok(())
 }
