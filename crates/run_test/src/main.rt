@@ -4,11 +4,15 @@
 // the work slice, the slice that is read and the samples around the lent slices
 // are compared. Prints, for each kind of case, how many there were and how many
 // came out right.
+#![tactic(auto)]
+
 ghost use Rattle.std.specs.Prelude.{◌<◌, ◌≤◌, length};
 
 use numbers::REFUSED_LENGTH;
 use replay::{read_case, read_word, say};
 use samples::{decode, fill, kept, same, word_at};
+use std::io;
+use std::io::Read;
 
 // The head of a case, by bytes: the answer, the record's length in bytes and the
 // lengths in samples of the slices that are read, filled and for work. The record
@@ -238,23 +242,24 @@ fn agrees(case: &[u8], source: &mut [i32], filled: &mut [i32], work: &mut [i32])
 
 // Replays the next cases of standard input, one after the other in the same rooms;
 // how many are right.
-fn replay_in(
+fn replay_in<R: Read>(
+    input: &mut R,
     cases: u32,
     space: &mut [u8],
     source: &mut [i32],
     filled: &mut [i32],
     work: &mut [i32],
-) -> u64
+) -> io::Result<u64>
     requires { (131_072 ≤ length source.old) × (131_072 ≤ length filled.old) × (131_072 ≤ length work.old) }
 {
     let mut right = 0u64;
     for _ in 0..cases {
-        let n = read_case(space);
+        let n = read_case(input, space)?;
         if agrees(&space[0..n], source, filled, work) {
             right += 1;
         }
     }
-    right
+    Ok(right)
 }
 
 // Arrays of this size have functions of their own: a proof that meets the zeros
@@ -267,29 +272,38 @@ fn sample_room() -> [i32; ROOM] {
     [0; ROOM]
 }
 
-fn replay(cases: u32) -> u64 {
+fn replay<R: Read>(input: &mut R, cases: u32) -> io::Result<u64> {
     let mut space = case_room();
     let mut source = sample_room();
     let mut filled = sample_room();
     let mut work = sample_room();
-    replay_in(cases, &mut space, &mut source, &mut filled, &mut work)
+    replay_in(
+        input,
+        cases,
+        &mut space,
+        &mut source,
+        &mut filled,
+        &mut work,
+    )
 }
 
 // Replays the cases of the next kind and says how many are right.
-fn kind(name: &[u8]) {
-    let cases = read_word();
-    say(name, cases as u64, replay(cases));
+fn kind<R: Read>(rt: &impl Print, input: &mut R, name: &str) -> io::Result<()> {
+    let cases = read_word(input)?;
+    say(rt, name, cases as u64, replay(input, cases)?)
 }
 
-fn main() {
-    kind(b"vectors ");
-    kind(b"sizes ");
-    kind(b"plans ");
-    kind(b"metas ");
-    kind(b"limits ");
-    kind(b"refusals ");
-    kind(b"order ");
-    kind(b"cuts ");
-    kind(b"strips ");
-    kind(b"versions ");
+fn main(rt: HostRuntime) -> io::Result<()> {
+    let mut input = rt.reader();
+    kind(&rt, &mut input, "vectors ")?;
+    kind(&rt, &mut input, "sizes ")?;
+    kind(&rt, &mut input, "plans ")?;
+    kind(&rt, &mut input, "metas ")?;
+    kind(&rt, &mut input, "limits ")?;
+    kind(&rt, &mut input, "refusals ")?;
+    kind(&rt, &mut input, "order ")?;
+    kind(&rt, &mut input, "cuts ")?;
+    kind(&rt, &mut input, "strips ")?;
+    kind(&rt, &mut input, "versions ")?;
+    Ok(())
 }
