@@ -9,6 +9,10 @@ if [ ! -f "$old/libbefore.a" ]; then
     rm -rf "$old"
     mkdir -p "$old/tree"
     git archive "$1" | tar -x -C "$old/tree"
+    if [ ! -x "$old/tree/tools/archive.sh" ]; then
+        echo "$1 is from before tools/archive.sh, and written for another toolchain than today's" >&2
+        exit 1
+    fi
     (cd "$old/tree" && tools/archive.sh squeeze > /dev/null 2>&1)
     cp "$old/tree/target/staticlib/libsqueeze.a" "$old/libbefore.a"
     for name in tile rebuild write grid_rect listing layout record; do

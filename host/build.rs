@@ -42,6 +42,7 @@ fn ready_archive(dir: PathBuf) -> PathBuf {
 fn make_archive() -> PathBuf {
     let host = PathBuf::from(env::var_os("CARGO_MANIFEST_DIR").expect("set by cargo"));
     let top = host.parent().expect("host/ lies in the repository");
+    println!("cargo:rerun-if-changed=../tools/archive.sh");
     watch_sources(&top.join("crates"));
     println!("cargo:rerun-if-changed=../crates.txt");
     run_archive(top);

@@ -12,7 +12,6 @@ LET = re.compile(rf"let ({W}) = ({W}) in(?:\n\s*| )")
 
 
 def block(b):
-    head = b.find("=\n")
     while True:
         m = LET.search(b)
         if not m:
@@ -36,4 +35,5 @@ def main(paths):
             print(p)
 
 
-main(sys.argv[1:])
+if __name__ == "__main__":
+    main(sys.argv[1:])

@@ -12,6 +12,6 @@ case ${1:-} in
         exit 2
         ;;
 esac
-rt lib "$crate"
+(cd "crates/$crate" && rt lib)
 mkdir -p target/staticlib
 cp "crates/$crate/out/lib$crate.a" "target/staticlib/lib$1.a"

@@ -298,7 +298,8 @@ fn played(name: &str) -> (Place, OsString) {
     write_script(
         &tree.join("bin/rt"),
         "#!/bin/sh\n\
-         echo \"$@\" >> calls\n\
+         echo \"${PWD##*/}: $*\" >> ../../calls\n\
+         cd ../..\n\
          mkdir alone || exit 1\n\
          echo 'what the checker says'\n\
          echo 'rt: chose --jobs 2 for one'\n\
@@ -324,7 +325,7 @@ fn played(name: &str) -> (Place, OsString) {
 fn calls(tree: &Path) -> usize {
     let calls = fs::read_to_string(tree.join("calls")).unwrap_or_default();
     assert!(
-        calls.lines().all(|call| call == "run squeeze_list"),
+        calls.lines().all(|call| call == "squeeze_list: run"),
         "{calls}"
     );
     calls.lines().count()
