@@ -4,8 +4,8 @@
 usage: python3 tools/respell.py [--dry]      at the top of a tree that port.py has turned, once
 
 Names of definitions and lemmas, constructors and fields turn wherever they stand as a whole word: in .antt files, in the clauses and comments of .rt
-files, in must-fail edits, and in the code spans of .md files. Functions, exported names and strings keep theirs. --dry lists the table and the names
-that would fall together in a file, and writes nothing.
+files, in must-fail edits, and in the code spans of .md files. Functions, exported names and strings keep theirs, and so does what a library calls so in
+a file that imports it. --dry lists the table and writes nothing. What would fall together in one file is said on standard error.
 """
 
 import os
@@ -15,6 +15,7 @@ import sys
 WORD = r"[^\s(){}.;,@\"«»`]+"
 DECLARED = re.compile(rf"^(?:  )?(?:(?:abbrev|unfoldable|pub|private)\s+)*({WORD})(?:\s+\{{[^}}]*\}})?\s+:(?:\s|$)", re.M)
 INNER = re.compile(rf"^\s+(?:pub\s+)?({WORD})\s+:\s", re.M)
+SPAN = re.compile(r"`[^`\n]*`")
 STRING = re.compile(r'"(?:[^"\\\n]|\\.)*"')
 KEEP = {"type-inv"}
 # definitions that port.py turned
@@ -59,55 +60,75 @@ TURNED_ALREADY = """
 """.split()
 
 
-def antt_files(top):
-    for folder, dirs, files in os.walk(os.path.join(top, "crates")):
-        dirs[:] = sorted(d for d in dirs if d not in ("out", ".git"))
-        for f in sorted(files):
-            if f.endswith(".antt"):
-                yield os.path.join(folder, f)
+def files(top, *endings):
+    for folder, dirs, names in os.walk(top):
+        dirs[:] = sorted(d for d in dirs if d not in ("out", "target", ".git"))
+        for name in sorted(names):
+            if name.endswith(endings):
+                yield os.path.join(folder, name)
+
+
+def read(path):
+    with open(path, encoding="utf-8") as it:
+        return it.read()
 
 
 def is_own(path):
     """A file whose declarations are the author's: specs/, or a file of lemmas right in proofs/."""
-    folder = os.path.basename(os.path.dirname(path))
-    return folder in ("specs", "proofs")
+    return os.path.basename(os.path.dirname(path)) in ("specs", "proofs")
+
+
+def is_camel(name):
+    return re.search("[a-z][A-Z]", name) is not None
+
+
+def is_old(name):
+    """A name that no function has: in camel case or with a dash."""
+    return re.search("[A-Z-]", name) is not None
 
 
 def turned(name):
     t = name.replace("getD", "get_or").replace("′", "'")
-    if not re.match(r"^[a-z]", t):
+    if not re.match("[a-z]", t):
         return t
     t = re.sub(r"(?<=[a-z0-9])([A-Z])(?=[a-z])", lambda m: "_" + m.group(1).lower(), t)
-    t = re.sub(r"(?<=[a-z0-9_])-(?=[a-z0-9])", "_", t)
-    return t
+    return re.sub(r"(?<=[a-z0-9_])-(?=[a-z0-9])", "_", t)
 
 
-def table(top):
+def declared():
     names = set()
-    for p in antt_files(top):
-        if not is_own(p):
-            continue
-        text = open(p, encoding="utf-8").read()
-        text = re.sub(r"--[^\n]*", "", text)
+    for path in filter(is_own, files("crates", ".antt")):
+        text = re.sub(r"--[^\n]*", "", read(path))
         names |= set(DECLARED.findall(text)) | set(INNER.findall(text))
-    names -= KEEP
-    # a lemma that would have its definition's name gets _lem
-    defined = {turned(n) for n in names if re.search("[a-z][A-Z]", n) and not re.search("[a-z0-9]-[a-z]", n)}
-    defined |= {n for n in names if n in DEFINED_ALREADY}
+    return names - KEEP
+
+
+def table(names):
+    """Old and new; a lemma that would have its definition's name gets _lem."""
+    is_definition = lambda n: n in DEFINED_ALREADY or is_camel(n) and not re.search("[a-z0-9]-[a-z]", n)
+    definitions = {turned(n) for n in names if is_definition(n)}
     rows = {}
     for n in sorted(names):
         t = turned(n)
-        if t in defined and not re.search("[a-z][A-Z]", n) and n not in DEFINED_ALREADY:
+        if t in definitions and not is_camel(n) and n not in DEFINED_ALREADY:
             t += "_lem"
         if t != n:
             rows[n] = t
     return rows
 
 
-def swap(rows):
-    if not rows:
-        return re.compile(r"(?!)")
-    return re.compile(rf"(?<![^\s(){{}}.;,@\"«»`])({'|'.join(re.escape(n) for n in sorted(rows, key=len, reverse=True))})(?![^\s(){{}}.;,@\"«»`])")
+def matching(names):
+    """Any of the names as a whole word."""
+    if not names:
+        return re.compile("(?!)")
+    longest_first = sorted(names, key=len, reverse=True)
+    return re.compile(rf"(?<![^\s(){{}}.;,@\"«»`])({'|'.join(map(re.escape, longest_first))})(?![^\s(){{}}.;,@\"«»`])")
+
+
+def by(rows):
+    """A turn of a text by these rows."""
+    words = matching(rows)
+    return lambda text: words.sub(lambda m: rows[m.group(1)], text)
 
 
 def outside_strings(text, turn):
@@ -118,110 +139,102 @@ def outside_strings(text, turn):
     return "".join(out) + turn(text[at:])
 
 
-def plain_comment(rows):
-    """Of a comment only what can be no English word turns: names in camel case, and all in code spans."""
-    camel = swap({n: t for n, t in rows.items() if re.search("[a-z][A-Z]", n)})
-    return lambda text: camel.sub(lambda m: rows[m.group(1)], text)
+class Respelling:
+    """The turns of each kind of file."""
+
+    def __init__(self, rows):
+        self.rows = rows
+        self.words = matching(rows)
+        # a name in snake case may be a function's too: behind a dot it is one, and .rt files cite no lemma
+        self.functions = set()
+        for path in files("crates", ".rt"):
+            self.functions |= set(re.findall(r"\bfn (\w+)", read(path)))
+        old = {n: t for n, t in rows.items() if is_old(n)}
+        self.in_rt = by(old)
+        # of a comment only what can be no English word
+        self.in_comment = by({n: t for n, t in rows.items() if is_camel(n)})
+        ported = {n: turned(n) for n in TURNED_ALREADY}
+        self.in_page = by({n: rows.get(t, t) if "-" in n else t for n, t in (ported | old).items()})
+
+    def in_antt(self, text, kept):
+        def one(m):
+            name = m.group(1)
+            is_path = text[m.start() - 1 : m.start()] == "."
+            return name if name in kept or name in self.functions and is_path else self.rows[name]
+
+        return self.words.sub(one, text)
+
+    def line(self, line, comment, turn):
+        """A line of code and the comment behind it, whose code spans turn as code does."""
+        if comment is None:
+            return outside_strings(line, turn)
+        code, tail = line[:comment], line[comment:]
+        return outside_strings(code, turn) + self.in_comment(re.sub("`[^`]*`", lambda s: turn(s.group(0)), tail))
+
+    def antt(self, text):
+        kept = set()
+        for module, names in re.findall(r"^use ([\w.]+)\.\{([^}]*)\}", text, re.M):
+            if not re.match(r"Rattle\.(?!std\b|core\b)", module):
+                kept |= {w.strip() for w in names.split(",")}
+
+        def one(line):
+            m = re.search(r"(?<!\S)--(?!\S*-\w)", line)
+            return self.line(line, m and m.start(), lambda t: self.in_antt(t, kept))
+
+        return "\n".join(map(one, text.split("\n")))
+
+    def rt(self, text):
+        def one(line):
+            at = line.find("//")
+            return self.line(line, None if at < 0 or '"' in line[:at] else at, self.in_rt)
+
+        return "\n".join(map(one, text.split("\n")))
+
+    def md(self, text):
+        return SPAN.sub(lambda s: self.in_page(s.group(0)), text)
+
+    def edit(self, text):
+        return self.in_page(text) if re.search("^file: (specs|proofs)", text, re.M) else self.rt(text)
+
+
+def words_of(text, comment):
+    return set(re.findall(WORD, re.sub(comment, "", text)))
+
+
+def fallen_together(path, text, rows):
+    """What two names of one file would become."""
+    words = words_of(text, r"(?m)(?<!\S)--.*")
+    old = words & set(rows)
+    for n in sorted(old):
+        if rows[n] in words - set(rows) or any(rows[n] == rows[m] for m in old - {n}):
+            yield f"{path}: {n} would fall together with another name that is {rows[n]}"
+
+
+def hidden(path, text, rows):
+    """Parameters and locals that have the new name of a word."""
+    code = re.sub("//.*", "", text)
+    for n in sorted(words_of(code, "(?!)") & set(rows)):
+        t = re.escape(rows[n])
+        if re.search(rf"\b{t}\s*:(?!:)|\blet (?:mut )?{t}\b", code):
+            yield f"{path}: {n}: a parameter or a local has the name {rows[n]}"
 
 
 def main(argv):
-    dry = "--dry" in argv
-    top = "."
-    rows = table(top)
-    word = swap(rows)
-    in_comment = plain_comment(rows)
-    said = []
-
-    # a name that is in snake case already may be a function's too: of those only lemmas turn, which no path ends in and no .rt file cites
-    functions = set()
-    for folder, dirs, files in os.walk("crates"):
-        for f in files:
-            if f.endswith(".rt"):
-                functions |= set(re.findall(r"\bfn (\w+)", open(os.path.join(folder, f), encoding="utf-8").read()))
-
-    def code_all(name, text, m):
-        return name if name in functions and text[m.start() - 1 : m.start()] == "." else rows[name]
-
-    def code(text):
-        return word.sub(lambda m: code_all(m.group(1), text, m), text)
-
-    in_rt = {n: t for n, t in rows.items() if re.search("[A-Z-]", n)}
-    rt_word = swap(in_rt)
-
-    def rt_code(text):
-        return rt_word.sub(lambda m: in_rt[m.group(1)], text)
-
-    def antt(text):
-        # what a library calls so keeps its name in a file that imports it
-        kept = set()
-        for m in re.finditer(r"^use ([\w.]+)\.\{([^}]*)\}", text, re.M):
-            if not re.match(r"Rattle\.(?!std\b|core\b)", m.group(1)):
-                kept |= {w.strip() for w in m.group(2).split(",")} & set(rows)
-
-        def code(t):
-            return word.sub(lambda m: m.group(1) if m.group(1) in kept else code_all(m.group(1), t, m), t)
-
-        lines = []
-        for line in text.split("\n"):
-            m = re.search(r"(?<!\S)--(?!\S*-\w)", line)
-            if m:
-                head, tail = line[: m.start()], line[m.start() :]
-                lines.append(outside_strings(head, code) + in_comment(re.sub(r"`[^`]*`", lambda s: code(s.group(0)), tail)))
-            else:
-                lines.append(outside_strings(line, code))
-        return "\n".join(lines)
-
-    def rt(text):
-        lines = []
-        for line in text.split("\n"):
-            m = re.search(r"//", line)
-            if m and '"' not in line[: m.start()]:
-                lines.append(rt_code(line[: m.start()]) + in_comment(re.sub(r"`[^`]*`", lambda s: rt_code(s.group(0)), line[m.start() :])))
-            else:
-                lines.append(outside_strings(line, rt_code))
-        return "\n".join(lines)
-
-    pages = {n: turned(n) for n in TURNED_ALREADY} | {n: t for n, t in rows.items() if re.search("[A-Z-]", n)}
-    pages = {n: rows.get(t, t) if "-" in n else t for n, t in pages.items()}
-    page_word = swap(pages)
-
-    def page(text):
-        return page_word.sub(lambda m: pages[m.group(1)], text)
-
-    def md(text):
-        return re.sub(r"`[^`\n]*`", lambda s: page(s.group(0)), text)
-
-    def edit(text):
-        return page(text) if re.search("^file: (specs|proofs)", text, re.M) else rt(text)
-
-    paths = list(antt_files(top))
-    for folder, dirs, files in os.walk("."):
-        dirs[:] = [d for d in dirs if d not in ("out", ".git", "target")]
-        paths += [os.path.join(folder, f) for f in files if f.endswith((".rt", ".edit")) or (f.endswith(".md") and not folder.startswith("./.git"))]
-    for p in paths:
-        old = open(p, encoding="utf-8").read()
-        turn = {".antt": antt, ".md": md, ".edit": edit, ".rt": rt}[os.path.splitext(p)[1]]
-        new = turn(old)
-        if p.endswith(".antt"):
-            bare = "\n".join(re.sub(r"(?<!\S)--.*", "", l) for l in old.split("\n"))
-            words = set(re.findall(WORD, bare))
-            for n in words & set(rows):
-                if rows[n] in words:
-                    said.append(f"{p}: {n} falls together with {rows[n]}")
-            seen = {}
-            for n in words & set(rows):
-                seen.setdefault(rows[n], []).append(n)
-            said += [f"{p}: {v} become one" for v in seen.values() if len(v) > 1]
-        if p.endswith(".rt"):
-            bare = "\n".join(re.sub(r"//.*", "", l) for l in old.split("\n"))
-            for n in set(re.findall(WORD, bare)) & set(rows):
-                if re.search(rf"\b{re.escape(rows[n])}\s*:(?!:)", bare) or re.search(rf"\blet (?:mut )?{re.escape(rows[n])}\b", bare):
-                    said.append(f"{p}: {n}: a parameter or a local has the name {rows[n]}")
-        if not dry and new != old:
-            open(p, "w", encoding="utf-8").write(new)
-    if dry:
+    rows = table(declared())
+    it = Respelling(rows)
+    turns = {".antt": it.antt, ".rt": it.rt, ".md": it.md, ".edit": it.edit}
+    looks = {".antt": fallen_together, ".rt": hidden}
+    for path in list(files(".", *turns)):
+        ending = os.path.splitext(path)[1]
+        text = read(path)
+        for said in looks.get(ending, lambda *_: ())(path, text, rows):
+            print(said, file=sys.stderr)
+        new = turns[ending](text)
+        if new != text and "--dry" not in argv:
+            with open(path, "w", encoding="utf-8") as out:
+                out.write(new)
+    if "--dry" in argv:
         print("\n".join(f"{n}\t{t}" for n, t in rows.items()))
-    print("\n".join(said), file=sys.stderr)
 
 
 if __name__ == "__main__":
