@@ -19,33 +19,30 @@ loop-i-init c = (
 
 pub loop-i-preserved : goal.loop-i-preserved
 loop-i-preserved c =
-    let turn = c in
-    let head = turn in
-    let a = head.args in
-    let i = head.loop-i.i in
-    let l = turn.loop-i-test.true in
+    let a = c.args in
+    let i = c.loop-i.i in
+    let l = c.loop-i-test.true in
     let pair = c.unsqueeze_lane-p in
-    let firsts = head.loop-i.invariant.0 in
-    let seconds = head.loop-i.invariant.1 in
-    let b1 = back32 (get_or head.loop-i.firsts i (pos 0)) c.unsqueeze_lane-arg-1.given ∙ firsts.rest i (omega arith) in
+    let firsts = c.loop-i.invariant.0 in
+    let seconds = c.loop-i.invariant.1 in
+    let b1 = back32 (get_or c.loop-i.firsts i (pos 0)) c.unsqueeze_lane-arg-1.given ∙ firsts.rest i (omega arith) in
     let b2 = back32 (get_or a.res i (pos 0)) c.unsqueeze_lane-arg-in-loop-i-1.given in
     let b3 = back32 (get_or a.next i (pos 0)) c.unsqueeze_lane-arg-in-loop-i-2-1.given in
-    let b4 = back32 (get_or head.loop-i.seconds i (pos 0)) c.unsqueeze_lane-arg-in-loop-i-3-1.given ∙ seconds.rest i (omega arith) in
+    let b4 = back32 (get_or c.loop-i.seconds i (pos 0)) c.unsqueeze_lane-arg-in-loop-i-3-1.given ∙ seconds.rest i (omega arith) in
     let e1 = back32 pair.result.first c.struct_told-1.given.0.1 ∙ rw (b1, b2, b3, b4) at pair.ensures.0 in
     let e2 = back32 pair.result.second c.struct_told-in-loop-i-1.given.1.0.1 ∙ rw (b1, b2, b3, b4) at pair.ensures.1 in (
-      filled_more first a.avg a.res a.next a.prev a.avg 8 head.loop-i.firsts i _ firsts l e1,
-      filled_more second a.avg a.res a.next a.prev a.prev 8 head.loop-i.seconds i _ seconds l e2,
+      filled_more first a.avg a.res a.next a.prev a.avg 8 c.loop-i.firsts i _ firsts l e1,
+      filled_more second a.avg a.res a.next a.prev a.prev 8 c.loop-i.seconds i _ seconds l e2,
       omega arith,
     )
 
 pub returns : goal.returns
 returns c =
-    let head = c in
-    let a = head.args in
-    let e : head.loop-i.i ≡ 8 = omega arith in
-    let firsts = rw e at head.loop-i.invariant.0 in
-    let seconds = rw e at head.loop-i.invariant.1 in
+    let a = c.args in
+    let e : c.loop-i.i ≡ 8 = omega arith in
+    let firsts = rw e at c.loop-i.invariant.0 in
+    let seconds = rw e at c.loop-i.invariant.1 in
     rw (
-      filled_all first 8 a.avg a.res a.next a.prev a.avg head.loop-i.firsts (search rules) (search rules) (search rules) (search rules) firsts,
-      filled_all second 8 a.avg a.res a.next a.prev a.prev head.loop-i.seconds (search rules) (search rules) (search rules) (search rules) seconds,
+      filled_all first 8 a.avg a.res a.next a.prev a.avg c.loop-i.firsts (search rules) (search rules) (search rules) (search rules) firsts,
+      filled_all second 8 a.avg a.res a.next a.prev a.prev c.loop-i.seconds (search rules) (search rules) (search rules) (search rules) seconds,
     )

@@ -29,8 +29,7 @@ tested : (c : Else-not-fits)
 tested c = let f = c.fits in rw f.ensures at c.if-not-fits.false
 
 fitted : (c : Else-not-fits)
-    → let s = c in
-    Fitting (asked s.before.before) × (length s.args.out.now ≡ s.args.w * (s.args.m + s.args.n))
+    → Fitting (asked c.before.before) × (length c.args.out.now ≡ c.args.w * (c.args.m + c.args.n))
 fitted c =
     let a = c.args in
     fits_fitting a.w a.m a.n a.avg.now a.res.now a.next.now a.prev.now a.out.now false (tested c)

@@ -30,8 +30,7 @@ tested : (c : Else-not-fits)
 tested c = let f = c.fits in rw f.ensures at c.if-not-fits.false
 
 fitted : (c : Else-not-fits)
-    → let s = c in
-    Fitting (asked s.before.before) × (length s.args.out.now ≡ 8 * (s.args.m + s.args.n))
+    → Fitting (asked c.before.before) × (length c.args.out.now ≡ 8 * (c.args.m + c.args.n))
 fitted c =
     let a = c.args in
     fits_fitting 8 a.m a.n a.avg.now a.res.now a.next.now a.prev.now a.out.now true (tested c)

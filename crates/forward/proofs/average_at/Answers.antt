@@ -19,9 +19,8 @@ pub returns : goal.returns
 returns c =
     let pair = c.squeeze-pair in
     let second = c.sample_at in
-    let tested = c in
-    let first = tested.sample_at-first in
-    let a = tested.args in
+    let first = c.sample_at-first in
+    let a = c.args in
     let b1 = back32 first.result first.type_inv ∙ first.ensures in
     let b2 = back32 second.result second.type_inv ∙ second.ensures in
     back32 pair.result.average (search rules) ∙ rw (b1, b2) at pair.ensures.0

@@ -17,58 +17,42 @@ third-inside c = rw c.next_first-third.ensures (first_inside c.args.size 0 c.req
 
 fourth-inside : (c : After-next_second-fourth) → c.next_second-fourth.result < c.args.size
 fourth-inside c =
-    let first = c in
-    rw c.next_second-fourth.ensures (second_inside first.args.size first.next_first-third.result (third-inside first.before))
+    rw c.next_second-fourth.ensures (second_inside c.args.size c.next_first-third.result (third-inside c.before))
 
 pub next_second-fourth-requires : goal.next_second-fourth-requires
 next_second-fourth-requires c = third-inside c
 
 pub samples_from-requires-2 : goal.samples_from-requires-2
 samples_from-requires-2 c =
-    let start = c in
-    let a = start.args in
-    row_begins a.lines a.size a.xs.now start.requires.0 _ (omega arith)
+    let a = c.args in
+    row_begins a.lines a.size a.xs.now c.requires.0 _ (omega arith)
 
 pub samples_from-requires-3 : goal.samples_from-requires-3
 samples_from-requires-3 c =
-    let start = c in
-    let a = start.args in
-    row_begins a.lines a.size a.xs.now start.requires.0 _ (omega (arith, third-inside c.before.before.before))
+    let a = c.args in
+    row_begins a.lines a.size a.xs.now c.requires.0 _ (omega (arith, third-inside c.before.before.before))
 
 pub samples_from-requires-4 : goal.samples_from-requires-4
 samples_from-requires-4 c =
-    let start = c in
-    let a = start.args in
-    row_begins a.lines a.size a.xs.now start.requires.0 _ (omega (arith, fourth-inside c.before.before.before))
+    let a = c.args in
+    row_begins a.lines a.size a.xs.now c.requires.0 _ (omega (arith, fourth-inside c.before.before.before))
 
 pub first_stretch-requires : goal.first_stretch-requires
 first_stretch-requires c =
-    let p4 = c in
-    let p3 = p4 in
-    let p2 = p3 in
-    let p1 = p2 in
-    let places = p1 in
-    let start = places in
-    let a = start.args in
-    let ends = row_ends a.lines a.size a.xs.now 0 start.requires.3 start.requires.2 start.requires.1 in
-    rw (p1.samples_from.ensures, p2.samples_from-2.ensures, p3.samples_from-3.ensures, p4.samples_from-4.ensures) (
-      reach_across a.lines a.size a.xs.now start.requires.0 _ (omega arith),
-      reach_across a.lines a.size a.xs.now start.requires.0 _ (omega arith),
-      reach_across a.lines a.size a.xs.now start.requires.0 _ (third-inside places.before.before.before.before.before.before),
-      reach_across a.lines a.size a.xs.now start.requires.0 _ (fourth-inside places.before.before.before.before.before),
+    let a = c.args in
+    let ends = row_ends a.lines a.size a.xs.now 0 c.requires.3 c.requires.2 c.requires.1 in
+    rw (c.samples_from.ensures, c.samples_from-2.ensures, c.samples_from-3.ensures, c.samples_from-4.ensures) (
+      reach_across a.lines a.size a.xs.now c.requires.0 _ (omega arith),
+      reach_across a.lines a.size a.xs.now c.requires.0 _ (omega arith),
+      reach_across a.lines a.size a.xs.now c.requires.0 _ (third-inside c.before.before.before.before.before.before),
+      reach_across a.lines a.size a.xs.now c.requires.0 _ (fourth-inside c.before.before.before.before.before),
       omega arith,
       omega arith,
     )
 
 pub returns : goal.returns
 returns c =
-    let p4 = c in
-    let p3 = p4 in
-    let p2 = p3 in
-    let p1 = p2 in
-    let places = p1 in
-    let start = places in
-    let a = start.args in
-    let e = rw (p1.samples_from.ensures, p2.samples_from-2.ensures, p3.samples_from-3.ensures, p4.samples_from-4.ensures) at c.first_stretch.ensures in
-    let made = rw (places.next_second-fourth.ensures, places.next_first-third.ensures) at e in
-    first_put a.lines a.size a.xs.now a.r start.requires.3 start.requires.2 made.1 made.0
+    let a = c.args in
+    let e = rw (c.samples_from.ensures, c.samples_from-2.ensures, c.samples_from-3.ensures, c.samples_from-4.ensures) at c.first_stretch.ensures in
+    let made = rw (c.next_second-fourth.ensures, c.next_first-third.ensures) at e in
+    first_put a.lines a.size a.xs.now a.r c.requires.3 c.requires.2 made.1 made.0

@@ -21,9 +21,8 @@ front : (c : At-loop-y)
     let y = c.loop-y.y in
     Put (squeezed_entry false a.lines a.size a.xs.now) 0 (y * a.lines) a.r (y * a.lines) a.out.now c.loop-y.out
 front c =
-    let made = c in
-    let a = made.args in
-    c.loop-y.invariant.2 a.out.now (rows_one a.lines a.size a.xs.now made.first_pairs.ensures)
+    let a = c.args in
+    c.loop-y.invariant.2 a.out.now (rows_one a.lines a.size a.xs.now c.first_pairs.ensures)
 
 pub returns-then-n-eq0 : goal.returns-then-n-eq0
 returns-then-n-eq0 c =
@@ -41,9 +40,8 @@ shape_of-out-then-n-eq1 c = c.first_pairs.ensures.long
 
 pub returns-then-n-eq1 : goal.returns-then-n-eq1
 returns-then-n-eq1 c =
-    let made = c in
-    let a = made.args in
-    rw c.if-n-eq1.true (rows_one a.lines a.size a.xs.now made.first_pairs.ensures)
+    let a = c.args in
+    rw c.if-n-eq1.true (rows_one a.lines a.size a.xs.now c.first_pairs.ensures)
 
 pub loop-y-init : goal.loop-y-init
 loop-y-init c =
@@ -51,17 +49,14 @@ loop-y-init c =
 
 pub squeeze_pairs-requires : goal.squeeze_pairs-requires
 squeeze_pairs-requires c =
-    let turn = c in
-    let start = turn in
-    let inv = turn.loop-y.invariant in
-    (start.requires.0, (front turn.before.before).long ∙ start.requires.1, start.requires.2, inv.0, omega (arith, turn.loop-y-test.true))
+    let inv = c.loop-y.invariant in
+    (c.requires.0, (front c.before.before).long ∙ c.requires.1, c.requires.2, inv.0, omega (arith, c.loop-y-test.true))
 
 pub loop-y-preserved : goal.loop-y-preserved
 loop-y-preserved c =
-    let turn = c in
-    let loop = turn.loop-y in
-    let a = turn.args in
-    let l = turn.loop-y-test.true in (
+    let loop = c.loop-y in
+    let a = c.args in
+    let l = c.loop-y-test.true in (
       omega arith,
       omega arith,
       λ old p. rows_more a.lines a.size a.xs.now loop.y (loop.invariant.2 old p) c.squeeze_pairs.ensures,
@@ -69,19 +64,16 @@ loop-y-preserved c =
 
 pub last_pairs-requires : goal.last_pairs-requires
 last_pairs-requires c =
-    let ended = c in
-    let start = ended in
-    let inv = ended.loop-y.invariant in
-    (start.requires.0, (front ended.before.before).long ∙ start.requires.1, start.requires.2, omega (arith, inv.0, inv.1), omega (arith, inv.0, inv.1))
+    let inv = c.loop-y.invariant in
+    (c.requires.0, (front c.before.before).long ∙ c.requires.1, c.requires.2, omega (arith, inv.0, inv.1), omega (arith, inv.0, inv.1))
 
 pub shape_of-out : goal.shape_of-out
 shape_of-out c = c.last_pairs.ensures.long ∙ (front c.before.before.before.before).long
 
 pub returns : goal.returns
 returns c =
-    let ended = c in
-    let loop = ended.loop-y in
-    let a = ended.args in
-    let e : loop.y ≡ a.size / 2 - 1 = omega (arith, ended.loop-y-test.false, loop.invariant.1) in
+    let loop = c.loop-y in
+    let a = c.args in
+    let e : loop.y ≡ a.size / 2 - 1 = omega (arith, c.loop-y-test.false, loop.invariant.1) in
     let s : a.size / 2 - 1 + 1 ≡ a.size / 2 = omega (arith, loop.invariant.0) in
-    rw s at (rows_more a.lines a.size a.xs.now (a.size / 2 - 1) (rw e at (front ended.before.before.before.before)) c.last_pairs.ensures)
+    rw s at (rows_more a.lines a.size a.xs.now (a.size / 2 - 1) (rw e at (front c.before.before.before.before)) c.last_pairs.ensures)

@@ -15,33 +15,29 @@ own c =
     let pair = c.squeeze-pair in
     let second = c.sample_at-2 in
     let first = c.sample_at in
-    let start = c in
-    let a = start.args in
+    let a = c.args in
     let b1 = back32 first.result first.type_inv ∙ first.ensures in
     let b2 = back32 second.result second.type_inv ∙ second.ensures in
     back32 pair.result.average (search rules) ∙ rw (b1, b2) at pair.ensures.0
-    ∙ sym (average_pair (line_in true a.lines a.size a.xs.now a.k) a.size a.i start.requires.2)
+    ∙ sym (average_pair (line_in true a.lines a.size a.xs.now a.k) a.size a.i c.requires.2)
 
 pub next_at-requires : goal.next_at-requires
 next_at-requires c =
-    let start = c in
-    (start.requires.0, start.requires.1, start.requires.2, own c)
+    (c.requires.0, c.requires.1, c.requires.2, own c)
 
 pub prev_at-requires : goal.prev_at-requires
 prev_at-requires c =
-    let start = c in
-    (start.requires.0, start.requires.1, start.requires.2, own c.before)
+    (c.requires.0, c.requires.1, c.requires.2, own c.before)
 
 pub returns : goal.returns
 returns c =
     let last = c.residual in
     let prev = c.prev_at in
     let next = c.next_at in
-    let told = c in
-    let pair = told.squeeze-pair in
-    let second = told.sample_at-2 in
-    let first = told.sample_at in
-    let a = told.args in
+    let pair = c.squeeze-pair in
+    let second = c.sample_at-2 in
+    let first = c.sample_at in
+    let a = c.args in
     let b1 = back32 first.result first.type_inv ∙ first.ensures in
     let b2 = back32 second.result second.type_inv ∙ second.ensures in
     let b3 = back32 pair.result.difference (search rules) ∙ rw (b1, b2) at pair.ensures.1 in

@@ -29,29 +29,25 @@ sizes c =
 
 -- the row of tails is the last of the averages
 tails : (c : goal.Then-n-size)
-    → let made = c in
-    let a = made.args in
+    → let a = c.args in
     let r = a.lines * (a.size - a.size / 2) in
     (a.size / 2 * a.lines + a.lines ≡ r) × (r ≤ length a.out.now)
 tails c =
-    let start = c in
-    let a = start.args in
+    let a = c.args in
     let e : a.size - a.size / 2 ≡ a.size / 2 + 1 = omega (arith, c.if-n-size.true) in
-    (rw e (omega (arith, mul_comm a.lines (a.size / 2 + 1), add-mul (a.size / 2) 1 a.lines)), omega (arith, sizes start.before.before.before.before))
+    (rw e (omega (arith, mul_comm a.lines (a.size / 2 + 1), add-mul (a.size / 2) 1 a.lines)), omega (arith, sizes c.before.before.before.before))
 
 pub overflow_mul-r : goal.overflow_mul-r
 overflow_mul-r c = omega (arith, sizes c)
 
 pub pairs_across-requires : goal.pairs_across-requires
 pairs_across-requires c =
-    let start = c in
-    (start.requires.0, start.requires.1, (sizes start.before).0)
+    (c.requires.0, c.requires.1, (sizes c.before).0)
 
 pub samples_from-requires : goal.samples_from-requires
 samples_from-requires c =
-    let start = c in
-    let a = start.args in
-    row_begins a.lines a.size a.xs.now start.requires.0 _ (omega (arith, c.if-n-size.true))
+    let a = c.args in
+    row_begins a.lines a.size a.xs.now c.requires.0 _ (omega (arith, c.if-n-size.true))
 
 pub overflow_mul-n : goal.overflow_mul-n
 overflow_mul-n c = omega (arith, tails c.before)
@@ -70,28 +66,22 @@ slice_bounds-copy-end c = omega (arith, tails c.before)
 
 pub returns-then-n-size : goal.returns-then-n-size
 returns-then-n-size c =
-    let from = c in
-    let then = from in
-    let made = then in
-    let start = made in
-    let a = start.args in
+    let a = c.args in
     let n = a.size / 2 in
     let r = a.lines * (a.size - n) in
-    let p = made.pairs_across.ensures in
-    squeezed_all false a.lines a.size a.xs.now {m = n * a.lines + a.lines} {n = n * a.lines} start.requires.1
-    (omega (arith, sizes start.before.before.before.before.before.before.before.before, tails then.before.before.before.before))
-    (sizes start.before.before.before.before.before.before.before.before).0 (sizes start.before.before.before.before.before.before.before.before).2
+    let p = c.pairs_across.ensures in
+    squeezed_all false a.lines a.size a.xs.now {m = n * a.lines + a.lines} {n = n * a.lines} c.requires.1
+    (omega (arith, sizes c.before.before.before.before.before.before.before.before, tails c.before.before.before.before))
+    (sizes c.before.before.before.before.before.before.before.before).0 (sizes c.before.before.before.before.before.before.before.before).2
     (put_join (squeezed_entry false a.lines a.size a.xs.now) p
-    (tails_put a.lines a.size a.xs.now n (r + n * a.lines) (r - n * a.lines) _ _ start.requires.0 (omega (arith, then.if-n-size.true))
-    (p.long ∙ start.requires.1)
-    (omega (arith, sizes start.before.before.before.before.before.before.before.before, tails then.before.before.before.before)) (rw from.samples_from.ensures at c.copy.ensures))
+    (tails_put a.lines a.size a.xs.now n (r + n * a.lines) (r - n * a.lines) _ _ c.requires.0 (omega (arith, c.if-n-size.true))
+    (p.long ∙ c.requires.1)
+    (omega (arith, sizes c.before.before.before.before.before.before.before.before, tails c.before.before.before.before)) (rw c.samples_from.ensures at c.copy.ensures))
     (omega arith) refl refl (omega arith))
 
 pub returns-else-n-size : goal.returns-else-n-size
 returns-else-n-size c =
-    let made = c in
-    let start = made in
-    let a = start.args in
+    let a = c.args in
     let e : average_count a.size ≡ a.size / 2 = omega (arith, c.if-n-size.false) in
-    squeezed_all false a.lines a.size a.xs.now start.requires.1 (rw e (mul_comm (a.size / 2) a.lines)) (sizes start.before.before.before.before).0 (sizes start.before.before.before.before).2
-    made.pairs_across.ensures
+    squeezed_all false a.lines a.size a.xs.now c.requires.1 (rw e (mul_comm (a.size / 2) a.lines)) (sizes c.before.before.before.before).0 (sizes c.before.before.before.before).2
+    c.pairs_across.ensures

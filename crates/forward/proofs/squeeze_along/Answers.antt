@@ -50,19 +50,16 @@ overflow_add-averages c = omega (arith, room c, sizes c.before.before)
 
 pub squeeze_line-requires : goal.squeeze_line-requires
 squeeze_line-requires c =
-    let turn = c in
-    let start = turn in
-    let h = halves start.args.size in
-    (start.requires.0, turn.loop-y.invariant.1.long ∙ start.requires.1, turn.loop-y-test.true, rw h.0, rw (h.0, h.1))
+    let h = halves c.args.size in
+    (c.requires.0, c.loop-y.invariant.1.long ∙ c.requires.1, c.loop-y-test.true, rw h.0, rw (h.0, h.1))
 
 pub loop-y-preserved : goal.loop-y-preserved
 loop-y-preserved c =
-    let turn = c in
-    let loop = turn.loop-y in
-    let a = turn.args in
+    let loop = c.loop-y in
+    let a = c.args in
     let p = add-mul loop.y 1 (a.size - a.size / 2) in
     let q = add-mul loop.y 1 (a.size / 2) in (
-      omega (arith, turn.loop-y-test.true),
+      omega (arith, c.loop-y-test.true),
       put_join (squeezed_entry true a.lines a.size a.xs.now) loop.invariant.1 c.squeeze_line.ensures (omega arith) refl (omega arith) (omega arith),
     )
 
@@ -71,9 +68,8 @@ shape_of-out c = c.loop-y.invariant.1.long
 
 pub returns : goal.returns
 returns c =
-    let start = c in
-    let a = start.args in
+    let a = c.args in
     let loop = c.loop-y in
     let e : loop.y ≡ a.lines = omega (arith, c.loop-y-test.false, loop.invariant.0) in
     let h = halves a.size in
-    squeezed_all true a.lines a.size a.xs.now start.requires.1 (rw (e, h.0)) (rw h.0) (rw (e, h.1)) loop.invariant.1
+    squeezed_all true a.lines a.size a.xs.now c.requires.1 (rw (e, h.0)) (rw h.0) (rw (e, h.1)) loop.invariant.1

@@ -48,15 +48,14 @@ ends c =
 -- the first pair
 with_first : (c : Joined-n-gt0) → Pairs c.before (min 1 (c.args.size / 2)) c.if-n-gt0.out
 with_first c =
-    let start = c in
-    let a = start.args in
+    let a = c.args in
     let n = a.size / 2 in
     let none = put_none (squeezed_entry true a.lines a.size a.xs.now) a.a a.r a.out.now in
     elim c.if-n-gt0.branch [
       | then-n-gt0 w ↦
           (let e : min 1 n ≡ 1 = omega (arith, w.if-n-gt0.true) in
           rw (w.out-is, e)
-          (pair_put a.lines a.size a.xs.now a.y a.a a.r start.requires.2 start.requires.3 start.requires.4 0 a.a a.r _ _ start.requires.1
+          (pair_put a.lines a.size a.xs.now a.y a.a a.r c.requires.2 c.requires.3 c.requires.4 0 a.a a.r _ _ c.requires.1
           (omega (arith, w.if-n-gt0.true)) (omega arith) (omega arith)
           (back32 w.average_at.result w.average_at.type_inv ∙ w.average_at.ensures)
           (back32 w.residual_at.result w.residual_at.type_inv ∙ w.residual_at.ensures) none))
@@ -82,13 +81,11 @@ room c = room_of c.before c.if-n-gt2.true
 -- the pairs before the last; a line's only pair is its first
 but_last : (c : Joined-n-gt2) → let n = c.args.size / 2 in Pairs c.before.before (max (n - 1) (min 1 n)) c.if-n-gt2.out
 but_last c =
-    let made = c in
-    let start = made in
-    let a = start.args in
+    let a = c.args in
     let n = a.size / 2 in
     elim c.if-n-gt2.branch [
       | then-n-gt2 w ↦
-          (let l = room_of made.before w.if-n-gt2.true in
+          (let l = room_of c.before w.if-n-gt2.true in
           let p = rw (
             w.samples_from.ensures,
             w.samples_from-then-n-gt2.ensures,
@@ -97,20 +94,18 @@ but_last c =
             w.samples_from-then-n-gt2-4.ensures,
           ) at w.squeeze_stretch.ensures.0 in
           rw w.out-is
-          (put_join (squeezed_entry true a.lines a.size a.xs.now) (with_first made.before)
-          (line_put a.lines a.size a.xs.now a.y a.a a.r start.requires.2 start.requires.3 start.requires.4 (n - 2)
-          (length made.if-n-gt0.out - (a.a + 1)) made.if-n-gt0.out _ (omega arith) l.0 (omega arith) p)
+          (put_join (squeezed_entry true a.lines a.size a.xs.now) (with_first c.before)
+          (line_put a.lines a.size a.xs.now a.y a.a a.r c.requires.2 c.requires.3 c.requires.4 (n - 2)
+          (length c.if-n-gt0.out - (a.a + 1)) c.if-n-gt0.out _ (omega arith) l.0 (omega arith) p)
           (omega arith) (omega arith) (omega arith) (omega arith)))
       | else-n-gt2 w ↦
-          (let e : max (n - 1) (min 1 n) ≡ min 1 n = omega (arith, w.if-n-gt2.false) in rw (w.out-is, e) (with_first made.before))
+          (let e : max (n - 1) (min 1 n) ≡ min 1 n = omega (arith, w.if-n-gt2.false) in rw (w.out-is, e) (with_first c.before))
     ]
 
 -- all pairs
 all-pairs : (c : Joined-n-gt1) → Pairs c.before.before.before (c.args.size / 2) c.if-n-gt1.out
 all-pairs c =
-    let made = c in
-    let start = made in
-    let a = start.args in
+    let a = c.args in
     let n = a.size / 2 in
     elim c.if-n-gt1.branch [
       | then-n-gt1 w ↦
@@ -120,11 +115,11 @@ all-pairs c =
           let res = w.residual_at-then-n-gt1 in
           rw w.out-is
           (rw s at
-          (pair_put a.lines a.size a.xs.now a.y a.a a.r start.requires.2 start.requires.3 start.requires.4 (n - 1) (a.a + n - 1) (a.r + n - 1) _ _ start.requires.1
+          (pair_put a.lines a.size a.xs.now a.y a.a a.r c.requires.2 c.requires.3 c.requires.4 (n - 1) (a.a + n - 1) (a.r + n - 1) _ _ c.requires.1
           (omega (arith, w.if-n-gt1.true)) (omega (arith, w.if-n-gt1.true)) (omega (arith, w.if-n-gt1.true))
-          (back32 avg.result avg.type_inv ∙ avg.ensures) (back32 res.result res.type_inv ∙ res.ensures) (rw e at (but_last made.before)))))
+          (back32 avg.result avg.type_inv ∙ avg.ensures) (back32 res.result res.type_inv ∙ res.ensures) (rw e at (but_last c.before)))))
       | else-n-gt1 w ↦
-          (let e : max (n - 1) (min 1 n) ≡ n = omega (arith, w.if-n-gt1.false) in rw w.out-is (rw e at (but_last made.before)))
+          (let e : max (n - 1) (min 1 n) ≡ n = omega (arith, w.if-n-gt1.false) in rw w.out-is (rw e at (but_last c.before)))
     ]
 
 pub offset_bounds-out-a : goal.offset_bounds-out-a
@@ -141,38 +136,28 @@ bounds-out-r c = simp length-set (omega (arith, ends c.before.before.before, c.i
 
 pub samples_from-requires : goal.samples_from-requires
 samples_from-requires c =
-    let then = c in
-    let start = then in
-    let a = start.args in
-    line_room a.lines a.size a.xs.now start.requires.0 a.y _ start.requires.2 (omega (arith, then.if-n-gt2.true))
+    let a = c.args in
+    line_room a.lines a.size a.xs.now c.requires.0 a.y _ c.requires.2 (omega (arith, c.if-n-gt2.true))
 
 pub samples_from-requires-then-n-gt2 : goal.samples_from-requires-then-n-gt2
 samples_from-requires-then-n-gt2 c =
-    let then = c in
-    let start = then in
-    let a = start.args in
-    line_room a.lines a.size a.xs.now start.requires.0 a.y _ start.requires.2 (omega (arith, then.if-n-gt2.true))
+    let a = c.args in
+    line_room a.lines a.size a.xs.now c.requires.0 a.y _ c.requires.2 (omega (arith, c.if-n-gt2.true))
 
 pub samples_from-requires-then-n-gt2-2 : goal.samples_from-requires-then-n-gt2-2
 samples_from-requires-then-n-gt2-2 c =
-    let then = c in
-    let start = then in
-    let a = start.args in
-    line_room a.lines a.size a.xs.now start.requires.0 a.y _ start.requires.2 (omega (arith, then.if-n-gt2.true))
+    let a = c.args in
+    line_room a.lines a.size a.xs.now c.requires.0 a.y _ c.requires.2 (omega (arith, c.if-n-gt2.true))
 
 pub samples_from-requires-then-n-gt2-3 : goal.samples_from-requires-then-n-gt2-3
 samples_from-requires-then-n-gt2-3 c =
-    let then = c in
-    let start = then in
-    let a = start.args in
-    line_room a.lines a.size a.xs.now start.requires.0 a.y _ start.requires.2 (omega (arith, then.if-n-gt2.true))
+    let a = c.args in
+    line_room a.lines a.size a.xs.now c.requires.0 a.y _ c.requires.2 (omega (arith, c.if-n-gt2.true))
 
 pub samples_from-requires-then-n-gt2-4 : goal.samples_from-requires-then-n-gt2-4
 samples_from-requires-then-n-gt2-4 c =
-    let then = c in
-    let start = then in
-    let a = start.args in
-    line_room a.lines a.size a.xs.now start.requires.0 a.y _ start.requires.2 (omega (arith, then.if-n-gt2.true))
+    let a = c.args in
+    line_room a.lines a.size a.xs.now c.requires.0 a.y _ c.requires.2 (omega (arith, c.if-n-gt2.true))
 
 pub overflow_sub-r : goal.overflow_sub-r
 overflow_sub-r c = omega (arith, room c.before.before.before.before.before)
@@ -191,30 +176,23 @@ slice_bounds-squeeze_stretch-start c = omega (arith, room c.before.before.before
 
 pub squeeze_stretch-requires : goal.squeeze_stretch-requires
 squeeze_stretch-requires c =
-    let p5 = c in
-    let p4 = p5 in
-    let p3 = p4 in
-    let p2 = p3 in
-    let p1 = p2 in
-    let then = p1 in
-    let start = then in
-    let a = start.args in
+    let a = c.args in
     let n = a.size / 2 - 2 in
-    let out = then.if-n-gt0.out in
-    let long = room then.before.before.before.before.before.before in
+    let out = c.if-n-gt0.out in
+    let long = room c.before.before.before.before.before.before in
     rw (
-      p1.samples_from.ensures,
-      p2.samples_from-then-n-gt2.ensures,
-      p3.samples_from-then-n-gt2-2.ensures,
-      p4.samples_from-then-n-gt2-3.ensures,
-      p5.samples_from-then-n-gt2-4.ensures,
+      c.samples_from.ensures,
+      c.samples_from-then-n-gt2.ensures,
+      c.samples_from-then-n-gt2-2.ensures,
+      c.samples_from-then-n-gt2-3.ensures,
+      c.samples_from-then-n-gt2-4.ensures,
       part_length (a.a + 1) (length out - (a.a + 1)) out (omega arith),
     ) (
-      reach_along a.lines a.size a.xs.now start.requires.0 a.y _ n start.requires.2 (omega arith),
-      reach_along a.lines a.size a.xs.now start.requires.0 a.y _ n start.requires.2 (omega arith),
-      reach_along a.lines a.size a.xs.now start.requires.0 a.y _ n start.requires.2 (omega arith),
-      reach_along a.lines a.size a.xs.now start.requires.0 a.y _ n start.requires.2 (omega arith),
-      reach_along a.lines a.size a.xs.now start.requires.0 a.y _ n start.requires.2 (omega arith),
+      reach_along a.lines a.size a.xs.now c.requires.0 a.y _ n c.requires.2 (omega arith),
+      reach_along a.lines a.size a.xs.now c.requires.0 a.y _ n c.requires.2 (omega arith),
+      reach_along a.lines a.size a.xs.now c.requires.0 a.y _ n c.requires.2 (omega arith),
+      reach_along a.lines a.size a.xs.now c.requires.0 a.y _ n c.requires.2 (omega arith),
+      reach_along a.lines a.size a.xs.now c.requires.0 a.y _ n c.requires.2 (omega arith),
       omega arith,
       omega arith,
     )
@@ -251,16 +229,15 @@ shape_of-out-then-n-size c = simp length-set (all-pairs c.before.before).long
 
 pub returns-then-n-size : goal.returns-then-n-size
 returns-then-n-size c =
-    let start = c in
-    let a = start.args in
+    let a = c.args in
     let n = a.size / 2 in
     let t = c.if-n-size.true in
     let tail = c.average_at-then-n-size in
     let p = all-pairs c.before.before in
     put_join (squeezed_entry true a.lines a.size a.xs.now) p
-    (put_low (squeezed_entry true a.lines a.size a.xs.now) (a.r + n) c.if-n-gt1.out (a.a + n) _ (omega (arith, ends start.before.before.before.before.before, p.long))
+    (put_low (squeezed_entry true a.lines a.size a.xs.now) (a.r + n) c.if-n-gt1.out (a.a + n) _ (omega (arith, ends c.before.before.before.before.before, p.long))
     (back32 tail.result tail.type_inv ∙ tail.ensures
-    ∙ line_average a.lines a.size a.xs.now a.y a.a a.r start.requires.2 start.requires.3 start.requires.4 n (a.a + n) (omega arith) refl))
+    ∙ line_average a.lines a.size a.xs.now a.y a.a a.r c.requires.2 c.requires.3 c.requires.4 n (a.a + n) (omega arith) refl))
     refl refl (omega arith) (omega arith)
 
 pub shape_of-out-else-n-size : goal.shape_of-out-else-n-size

@@ -37,14 +37,12 @@ squeeze_across-requires c = lengths c.before.before
 
 pub returns-then-horizontal : goal.returns-then-horizontal
 returns-then-horizontal c =
-    let other = c in
-    let a = other.args in
+    let a = c.args in
     rw c.if-horizontal.true
-    (c.squeeze_along.ensures ∙ squeezed_put true a.lines a.size a.xs.now a.out.now (fit-so other.before.before.before.before))
+    (c.squeeze_along.ensures ∙ squeezed_put true a.lines a.size a.xs.now a.out.now (fit-so c.before.before.before.before))
 
 pub returns-else-horizontal : goal.returns-else-horizontal
 returns-else-horizontal c =
-    let other = c in
-    let a = other.args in
+    let a = c.args in
     rw c.if-horizontal.false
-    (c.squeeze_across.ensures ∙ squeezed_put false a.lines a.size a.xs.now a.out.now (fit-so other.before.before.before.before))
+    (c.squeeze_across.ensures ∙ squeezed_put false a.lines a.size a.xs.now a.out.now (fit-so c.before.before.before.before))

@@ -12,33 +12,28 @@ ends c = let a = c.args in row_ends a.lines a.size a.xs.now a.y (omega arith) c.
 
 pub samples_from-requires : goal.samples_from-requires
 samples_from-requires c =
-    let start = c in
-    let a = start.args in
-    row_begins a.lines a.size a.xs.now start.requires.0 _ (omega arith)
+    let a = c.args in
+    row_begins a.lines a.size a.xs.now c.requires.0 _ (omega arith)
 
 pub samples_from-requires-2 : goal.samples_from-requires-2
 samples_from-requires-2 c =
-    let start = c in
-    let a = start.args in
-    row_begins a.lines a.size a.xs.now start.requires.0 _ (omega arith)
+    let a = c.args in
+    row_begins a.lines a.size a.xs.now c.requires.0 _ (omega arith)
 
 pub samples_from-requires-3 : goal.samples_from-requires-3
 samples_from-requires-3 c =
-    let start = c in
-    let a = start.args in
-    row_begins a.lines a.size a.xs.now start.requires.0 _ (omega arith)
+    let a = c.args in
+    row_begins a.lines a.size a.xs.now c.requires.0 _ (omega arith)
 
 pub samples_from-requires-4 : goal.samples_from-requires-4
 samples_from-requires-4 c =
-    let start = c in
-    let a = start.args in
-    row_begins a.lines a.size a.xs.now start.requires.0 _ (omega arith)
+    let a = c.args in
+    row_begins a.lines a.size a.xs.now c.requires.0 _ (omega arith)
 
 pub samples_from-requires-5 : goal.samples_from-requires-5
 samples_from-requires-5 c =
-    let start = c in
-    let a = start.args in
-    row_begins a.lines a.size a.xs.now start.requires.0 _ (omega arith)
+    let a = c.args in
+    row_begins a.lines a.size a.xs.now c.requires.0 _ (omega arith)
 
 pub overflow_mul-y : goal.overflow_mul-y
 overflow_mul-y c = omega (arith, ends c.before.before.before.before.before)
@@ -54,44 +49,32 @@ slice_bounds-squeeze_stretch-start c = omega (arith, ends c.before.before.before
 
 pub squeeze_stretch-requires : goal.squeeze_stretch-requires
 squeeze_stretch-requires c =
-    let p5 = c in
-    let p4 = p5 in
-    let p3 = p4 in
-    let p2 = p3 in
-    let p1 = p2 in
-    let start = p1 in
-    let a = start.args in
+    let a = c.args in
     let s = a.y * a.lines in
     let n = length a.out.now in
     rw (
-      p1.samples_from.ensures,
-      p2.samples_from-2.ensures,
-      p3.samples_from-3.ensures,
-      p4.samples_from-4.ensures,
-      p5.samples_from-5.ensures,
-      part_length s (n - s) a.out.now (omega (arith, ends start.before.before.before.before.before.before)),
+      c.samples_from.ensures,
+      c.samples_from-2.ensures,
+      c.samples_from-3.ensures,
+      c.samples_from-4.ensures,
+      c.samples_from-5.ensures,
+      part_length s (n - s) a.out.now (omega (arith, ends c.before.before.before.before.before.before)),
     ) (
-      reach_across a.lines a.size a.xs.now start.requires.0 _ (omega arith),
-      reach_across a.lines a.size a.xs.now start.requires.0 _ (omega arith),
-      reach_across a.lines a.size a.xs.now start.requires.0 _ (omega arith),
-      reach_across a.lines a.size a.xs.now start.requires.0 _ (omega arith),
-      reach_across a.lines a.size a.xs.now start.requires.0 _ (omega arith),
-      omega (arith, ends start.before.before.before.before.before.before),
-      omega (arith, ends start.before.before.before.before.before.before),
+      reach_across a.lines a.size a.xs.now c.requires.0 _ (omega arith),
+      reach_across a.lines a.size a.xs.now c.requires.0 _ (omega arith),
+      reach_across a.lines a.size a.xs.now c.requires.0 _ (omega arith),
+      reach_across a.lines a.size a.xs.now c.requires.0 _ (omega arith),
+      reach_across a.lines a.size a.xs.now c.requires.0 _ (omega arith),
+      omega (arith, ends c.before.before.before.before.before.before),
+      omega (arith, ends c.before.before.before.before.before.before),
     )
 
 pub returns : goal.returns
 returns c =
-    let p5 = c in
-    let p4 = p5 in
-    let p3 = p4 in
-    let p2 = p3 in
-    let p1 = p2 in
-    let start = p1 in
-    let a = start.args in
-    let e = rw (p1.samples_from.ensures, p2.samples_from-2.ensures, p3.samples_from-3.ensures) at c.squeeze_stretch.ensures.0 in
+    let a = c.args in
+    let e = rw (c.samples_from.ensures, c.samples_from-2.ensures, c.samples_from-3.ensures) at c.squeeze_stretch.ensures.0 in
     row_put a.lines a.size a.xs.now a.y (omega arith) (a.y + a.y + 2) (a.y + a.y + 3) a.r
     (length a.out.now - a.y * a.lines) a.out.now _
-    start.requires.3 start.requires.2 start.requires.1 (omega (arith, ends start.before.before.before.before.before.before.before.before))
-    (next_row a.lines a.size a.xs.now a.y (omega arith) start.requires.4)
-    (rw (p4.samples_from-4.ensures, p5.samples_from-5.ensures) at e)
+    c.requires.3 c.requires.2 c.requires.1 (omega (arith, ends c.before.before.before.before.before.before.before.before))
+    (next_row a.lines a.size a.xs.now a.y (omega arith) c.requires.4)
+    (rw (c.samples_from-4.ensures, c.samples_from-5.ensures) at e)

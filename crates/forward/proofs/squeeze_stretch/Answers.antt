@@ -72,28 +72,23 @@ pub loop-x-preserved : goal.loop-x-preserved
 unfolding average_over residual_over P.residual
 loop-x-preserved c =
     let last = c.residual_lane in
-    let asked = c in
-    let told = asked in
-    let next = told in
-    let own = next in
-    let turn = own in
-    let a = turn.args in
-    let x = turn.loop-x.x in
+    let a = c.args in
+    let x = c.loop-x.x in
     let i = x * a.step in
     let b0 = back32 (get_or a.before.now i (pos 0)) (search rules) in
     let b1 = back32 (get_or a.first.now i (pos 0)) (search rules) in
     let b2 = back32 (get_or a.second.now i (pos 0)) (search rules) in
     let b3 = back32 (get_or a.third.now i (pos 0)) (search rules) in
     let b4 = back32 (get_or a.fourth.now i (pos 0)) (search rules) in
-    let d = back32 own.squeeze-own.result.difference (search rules) ∙ rw (b1, b2) at own.squeeze-own.ensures.1 in
-    let v = back32 own.squeeze-own.result.average (search rules) ∙ rw (b1, b2) at own.squeeze-own.ensures.0 in
-    let w = back32 next.squeeze-next.result.average (search rules) ∙ rw (b3, b4) at next.squeeze-next.ensures.0 in (
-      omega (arith, turn.loop-x-test.true),
+    let d = back32 c.squeeze-own.result.difference (search rules) ∙ rw (b1, b2) at c.squeeze-own.ensures.1 in
+    let v = back32 c.squeeze-own.result.average (search rules) ∙ rw (b1, b2) at c.squeeze-own.ensures.0 in
+    let w = back32 c.squeeze-next.result.average (search rules) ∙ rw (b3, b4) at c.squeeze-next.ensures.0 in (
+      omega (arith, c.loop-x-test.true),
       stretch_more (average_over a.first.now a.second.now a.step) (residual_over a.before.now a.first.now a.second.now a.third.now a.fourth.now a.step) a.r x _ _
-          (omega (arith, turn.loop-x-test.true)) (omega (arith, turn.loop-x-test.true)) v
+          (omega (arith, c.loop-x-test.true)) (omega (arith, c.loop-x-test.true)) v
           (back32 last.result last.type_inv ∙ rw (d, v, w, b0) at last.ensures)
-          turn.loop-x.invariant.1,
-      read_more a.step a.third.now x (search rules) turn.loop-x.invariant.2,
+          c.loop-x.invariant.1,
+      read_more a.step a.third.now x (search rules) c.loop-x.invariant.2,
     )
 
 pub shape_of-out : goal.shape_of-out

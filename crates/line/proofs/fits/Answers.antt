@@ -11,16 +11,13 @@ returns-then-m-n-gt1 c = let a = c.args in too_many a.lines a.m a.n a.avg.now a.
 
 pub returns-then-not-is_area : goal.returns-then-not-is_area
 returns-then-not-is_area c =
-    let high = c in
-    let a = high.args in
-    no_area a.lines a.m a.n a.avg.now a.res.now a.next.now a.prev.now a.out.now high.if-m-n.false (omega (arith, high.if-m-n-gt1.false))
+    let a = c.args in
+    no_area a.lines a.m a.n a.avg.now a.res.now a.next.now a.prev.now a.out.now c.if-m-n.false (omega (arith, c.if-m-n-gt1.false))
     (rw (c.is_area-2.ensures, c.is_area.ensures) at c.if-not-is_area.true)
 
 pub returns : goal.returns
 returns c =
-    let tested = c in
-    let high = tested in
-    let a = high.args in
+    let a = c.args in
     rw (c.outer_fits-2.ensures, c.outer_fits.ensures)
-    (by_rest a.lines a.m a.n a.avg.now a.res.now a.next.now a.prev.now a.out.now high.if-m-n.false (omega (arith, high.if-m-n-gt1.false))
-    (rw (tested.is_area-2.ensures, tested.is_area.ensures) at tested.if-not-is_area.false))
+    (by_rest a.lines a.m a.n a.avg.now a.res.now a.next.now a.prev.now a.out.now c.if-m-n.false (omega (arith, c.if-m-n-gt1.false))
+    (rw (c.is_area-2.ensures, c.is_area.ensures) at c.if-not-is_area.false))

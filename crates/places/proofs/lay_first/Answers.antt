@@ -10,10 +10,9 @@ loop-k-init c = (c.requires.0, c.requires.1, omega arith, laying_none _ _ _)
 
 pub loop-k-preserved : goal.loop-k-preserved
 loop-k-preserved c =
-    let q = c in
-    let w = q.loop-k in
+    let w = c.loop-k in
     let i = w.invariant in
-    let a = q.args in (
+    let a = c.args in (
       i.0,
       i.1,
       omega arith,
@@ -23,8 +22,7 @@ loop-k-preserved c =
 
 pub returns : goal.returns
 returns c =
-    let q = c in
-    let w = q.loop-k in
-    let a = q.args in
+    let w = c.loop-k in
+    let a = c.args in
     rw (areas_all a.end a.widths.now a.heights.now w.invariant.0)
     (laying_all (area_at a.widths.now a.heights.now) a.end a.homes.now w.homes w.at w.k w.invariant.3 c.loop-k-test.false w.invariant.2)

@@ -26,11 +26,10 @@ returns-then-not-step_fits c =
 
 pub spread-requires : goal.spread-requires
 spread-requires c =
-    let r = c in
-    let a = r.args in
-    let f = fits_facts a.count a.step (fitting r.before.before.before.before.before.before) in
+    let a = c.args in
+    let f = fits_facts a.count a.step (fitting c.before.before.before.before.before.before) in
     let i = residuals_inside a.count a.step f.0 in
-    let e = r.residuals_at-at.ensures in (
+    let e = c.residuals_at-at.ensures in (
       record {
         widths = (search rules);
         heights = (search rules);
@@ -43,11 +42,10 @@ spread-requires c =
 
 pub split-requires : goal.split-requires
 split-requires c =
-    let r = c in
-    let a = r.args in
-    let f = fits_facts a.count a.step (fitting r.before.before.before.before.before.before.before.before.before.before.before.before) in
+    let a = c.args in
+    let f = fits_facts a.count a.step (fitting c.before.before.before.before.before.before.before.before.before.before.before.before) in
     let i = residuals_inside a.count a.step f.0 in
-    let e = r.residuals_at-at.ensures in (
+    let e = c.residuals_at-at.ensures in (
       record {
         widths = (search rules);
         heights = (search rules);
@@ -60,22 +58,19 @@ split-requires c =
 
 pub overflow_add-result : goal.overflow_add-result
 overflow_add-result c =
-    let r = c in
-    let a = r.args in
-    let f = fits_facts a.count a.step (fitting r.before.before.before.before.before.before.before.before.before.before.before.before.before) in
+    let a = c.args in
+    let f = fits_facts a.count a.step (fitting c.before.before.before.before.before.before.before.before.before.before.before.before.before) in
     record { fits = omega arith }
 
 pub returns : goal.returns
 returns c =
-    let m = c in
-    let r = m in
-    let a = r.args in
-    let e = r.residuals_at-at.ensures in
+    let a = c.args in
+    let e = c.residuals_at-at.ensures in
     let k = c.split.auto in
-    let g = m.spread.new in
+    let g = c.spread.new in
     let u = c.split.new in
     placed a.count a.step a.widths.now a.heights.now a.homes.now a.slots.now
-    g.widths g.heights g.homes g.slots u.widths u.heights u.homes u.slots (fitting r.before.before.before.before.before.before.before.before.before.before.before.before.before)
+    g.widths g.heights g.homes g.slots u.widths u.heights u.homes u.slots (fitting c.before.before.before.before.before.before.before.before.before.before.before.before.before)
     (record {
       widths = (search rules);
       heights = (search rules);
@@ -88,5 +83,5 @@ returns c =
       homes = k.homes ∙ (search rules);
       slots = k.slots ∙ (search rules);
     })
-    (rw e at m.spread.ensures)
+    (rw e at c.spread.ensures)
     (rw e at c.split.ensures)

@@ -4,16 +4,10 @@ use Rattle.places.proofs.split_one.Goals as goal
 
 pub returns-then-horizontal : goal.returns-then-horizontal
 returns-then-horizontal c =
-    let e = c in
-    let t = e in
-    let a = t in
-    halved_along a.args.k a.args.r a.args.widths.now a.args.heights.now a.args.homes.now a.args.slots.now a.requires.0 a.requires.1 a.requires.2
-    e.if-horizontal.true e.split_along.ensures t.turned-slot.ensures
+    halved_along c.args.k c.args.r c.args.widths.now c.args.heights.now c.args.homes.now c.args.slots.now c.requires.0 c.requires.1 c.requires.2
+    c.if-horizontal.true c.split_along.ensures c.turned-slot.ensures
 
 pub returns-else-horizontal : goal.returns-else-horizontal
 returns-else-horizontal c =
-    let e = c in
-    let t = e in
-    let a = t in
-    halved_across a.args.k a.args.r a.args.widths.now a.args.heights.now a.args.homes.now a.args.slots.now a.requires.0 a.requires.1 a.requires.2
-    e.if-horizontal.false e.split_across.ensures t.turned-slot.ensures
+    halved_across c.args.k c.args.r c.args.widths.now c.args.heights.now c.args.homes.now c.args.slots.now c.requires.0 c.requires.1 c.requires.2
+    c.if-horizontal.false c.split_across.ensures c.turned-slot.ensures

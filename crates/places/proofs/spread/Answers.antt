@@ -10,9 +10,8 @@ loop-k-init c = (c.requires.0, c.requires.1, omega arith, spread_none _ _ _)
 
 pub loop-k-preserved : goal.loop-k-preserved
 loop-k-preserved c =
-    let q = c in
-    let a = q.args in
-    let w = q.loop-k in
+    let a = c.args in
+    let w = c.loop-k in
     let i = w.invariant in
     let z : w.k - 1 + 1 ≡ w.k = omega arith in (
       full_set w.widths w.heights w.homes w.slots _ _ _ _ _ i.0,
@@ -23,6 +22,5 @@ loop-k-preserved c =
 
 pub returns : goal.returns
 returns c =
-    let q = c in
-    let e : q.loop-k.k ≡ q.args.at = omega arith in
-    rw e at q.loop-k.invariant.3
+    let e : c.loop-k.k ≡ c.args.at = omega arith in
+    rw e at c.loop-k.invariant.3

@@ -30,14 +30,12 @@ loop-i-init c = (paste-zero _ 0 (drop c.args.at c.args.s.now), refl, omega arith
 
 pub loop-i-preserved : goal.loop-i-preserved
 loop-i-preserved c =
-    let head = c in
-    let a = head.args in
-    let i = head.loop-i.i in
+    let a = c.args in
+    let i = c.loop-i.i in
     let x = back32 (get_or a.s.now (a.at + i) (pos 0)) c.b-1.given in
-    (rw x (load_more head.loop-i.b _ a.s.now a.at i head.loop-i.invariant.0 head.loop-i.invariant.1 (omega arith) (omega arith)), refl, omega arith, omega arith)
+    (rw x (load_more c.loop-i.b _ a.s.now a.at i c.loop-i.invariant.0 c.loop-i.invariant.1 (omega arith) (omega arith)), refl, omega arith, omega arith)
 
 pub returns : goal.returns
 returns c =
-    let head = c in
-    let a = head.args in
-    load_all head.loop-i.b _ a.s.now a.at head.loop-i.i head.loop-i.invariant.0 head.loop-i.invariant.1 (omega arith) (omega arith)
+    let a = c.args in
+    load_all c.loop-i.b _ a.s.now a.at c.loop-i.i c.loop-i.invariant.0 c.loop-i.invariant.1 (omega arith) (omega arith)

@@ -20,20 +20,12 @@ put avg res next prev out m r em er = rw (em, er)
 
 pub returns : goal.returns
 returns c =
-    let second = c in
-    let first = second in
-    let block = first in
-    let prev = block in
-    let next = prev in
-    let res = next in
-    let avg = res in
-    let start = avg in
     let r = unsqueezed-of
-    start.args.avg.now start.args.res.now start.args.next.now start.args.prev.now
-    avg.load_block.result res.load_block-2.result next.load_block-3.result prev.load_block-4.result
-    block.unsqueeze_block-r.result
-    avg.load_block.ensures res.load_block-2.ensures next.load_block-3.ensures prev.load_block-4.ensures
-    block.unsqueeze_block-r.ensures in
-    second.store_block-2.ensures
-    ∙ put start.args.avg.now start.args.res.now start.args.next.now start.args.prev.now start.args.out.now
-    first.store_block.new.s block.unsqueeze_block-r.result first.store_block.ensures r
+    c.args.avg.now c.args.res.now c.args.next.now c.args.prev.now
+    c.load_block.result c.load_block-2.result c.load_block-3.result c.load_block-4.result
+    c.unsqueeze_block-r.result
+    c.load_block.ensures c.load_block-2.ensures c.load_block-3.ensures c.load_block-4.ensures
+    c.unsqueeze_block-r.ensures in
+    c.store_block-2.ensures
+    ∙ put c.args.avg.now c.args.res.now c.args.next.now c.args.prev.now c.args.out.now
+    c.store_block.new.s c.unsqueeze_block-r.result c.store_block.ensures r

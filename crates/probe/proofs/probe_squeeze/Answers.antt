@@ -15,14 +15,13 @@ pub returns : goal.returns
 unfolding squeezed Pair.residual
 returns c =
     let s = c.squeeze-s in
-    let start = c in
-    let x = to_z-of_z start.ranges.first in
-    let y = to_z-of_z start.ranges.second in
+    let x = to_z-of_z c.ranges.first in
+    let y = to_z-of_z c.ranges.second in
     let a = back32 s.result.average c.struct_told-1.given.0.1 in
     let d = back32 s.result.difference c.struct_told-2-1.given.1.0.1 in
     let ea = rw (x, y) at s.ensures.0 in
     let ed = rw (x, y) at s.ensures.1 in
-    written start.args.out.now c.if-out-ne2.false
+    written c.args.out.now c.if-out-ne2.false
     (a ∙ ea)
     (back32 c.residual-residual.result c.residual-residual.type_inv
-    ∙ rw (a, d, ea, ed, to_z-of_z start.ranges.next, to_z-of_z start.ranges.prev) at c.residual-residual.ensures)
+    ∙ rw (a, d, ea, ed, to_z-of_z c.ranges.next, to_z-of_z c.ranges.prev) at c.residual-residual.ensures)

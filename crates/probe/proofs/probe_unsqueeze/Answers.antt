@@ -14,11 +14,10 @@ pub returns : goal.returns
 unfolding unsqueezed
 returns c =
     let p = c.unsqueeze-p in
-    let start = c in
-    let a = to_z-of_z start.ranges.avg in
-    let r = to_z-of_z start.ranges.res in
-    let n = to_z-of_z start.ranges.next in
-    let v = to_z-of_z start.ranges.prev in
-    written start.args.out.now c.if-out-ne2.false
+    let a = to_z-of_z c.ranges.avg in
+    let r = to_z-of_z c.ranges.res in
+    let n = to_z-of_z c.ranges.next in
+    let v = to_z-of_z c.ranges.prev in
+    written c.args.out.now c.if-out-ne2.false
     (back32 p.result.first c.struct_told-1.given.0.1 ∙ rw (a, r, n, v) at p.ensures.0)
     (back32 p.result.second c.struct_told-2-1.given.1.0.1 ∙ rw (a, r, n, v) at p.ensures.1)

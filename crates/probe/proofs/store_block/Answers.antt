@@ -33,19 +33,17 @@ loop-i-init c =
 
 pub loop-i-preserved : goal.loop-i-preserved
 loop-i-preserved c =
-    let head = c in
-    let a = head.args in
-    let i = head.loop-i.i in
+    let a = c.args in
+    let i = c.loop-i.i in
     let x = back32 (get_or a.b i (pos 0)) c.s-1.given in (
-      rw x (store_more head.loop-i.s a.s.now a.b a.at i head.loop-i.invariant.0 head.loop-i.invariant.2 (omega arith) (omega arith)),
-      simp length-set head.loop-i.invariant.1,
-      head.loop-i.invariant.2,
+      rw x (store_more c.loop-i.s a.s.now a.b a.at i c.loop-i.invariant.0 c.loop-i.invariant.2 (omega arith) (omega arith)),
+      simp length-set c.loop-i.invariant.1,
+      c.loop-i.invariant.2,
       omega arith,
       omega arith,
     )
 
 pub returns : goal.returns
 returns c =
-    let head = c in
-    let a = head.args in
-    store_all head.loop-i.s a.s.now a.b a.at head.loop-i.i head.loop-i.invariant.0 head.loop-i.invariant.2 (omega arith) (omega arith)
+    let a = c.args in
+    store_all c.loop-i.s a.s.now a.b a.at c.loop-i.i c.loop-i.invariant.0 c.loop-i.invariant.2 (omega arith) (omega arith)

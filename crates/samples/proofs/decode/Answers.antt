@@ -13,12 +13,11 @@ loop-i-init c = (search rules, refl, refl, holds_none (stored c.args.bytes.now) 
 
 pub loop-i-preserved : goal.loop-i-preserved
 loop-i-preserved c =
-    let head = c in
     let v = c.sample_at in (
       search rules,
       simp length-set (omega arith),
       simp length-set (omega arith),
-      holds_set (stored head.args.bytes.now) head.loop-i.s 0 head.loop-i.i _ head.loop-i.invariant.3 (search rules)
+      holds_set (stored c.args.bytes.now) c.loop-i.s 0 c.loop-i.i _ c.loop-i.invariant.3 (search rules)
           (back32 v.result v.type_inv ∙ v.ensures),
     )
 

@@ -13,12 +13,11 @@ loop-i-init c = (search rules, refl, refl, holds_none mark c.args.s.now 0 0 (ome
 
 pub loop-i-preserved : goal.loop-i-preserved
 loop-i-preserved c =
-    let head = c in
     let v = c.mark in (
       search rules,
       simp length-set (omega arith),
       simp length-set (omega arith),
-      holds_set mark head.loop-i.s 0 head.loop-i.i _ head.loop-i.invariant.3 (search rules) (back32 v.result v.type_inv ∙ v.ensures),
+      holds_set mark c.loop-i.s 0 c.loop-i.i _ c.loop-i.invariant.3 (search rules) (back32 v.result v.type_inv ∙ v.ensures),
     )
 
 pub returns : goal.returns

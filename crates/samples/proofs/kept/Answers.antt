@@ -15,20 +15,17 @@ loop-i-init c = (search rules, search rules, holds_none mark c.args.s.now c.args
 pub returns-then-s-i : goal.returns-then-s-i
 returns-then-s-i c =
     let v = c.mark in
-    let head = c in
-    let a = head.args in
-    no (λ t. differs mark a.s.now a.from head.loop-i.i _ v.result v.ensures head.loop-i.invariant.1 (search rules) c.if-s-i.true t.1)
+    let a = c.args in
+    no (λ t. differs mark a.s.now a.from c.loop-i.i _ v.result v.ensures c.loop-i.invariant.1 (search rules) c.if-s-i.true t.1)
 
 pub loop-i-preserved : goal.loop-i-preserved
 loop-i-preserved c =
     let v = c.mark in
-    let turn = c in
-    let head = turn in
-    let a = head.args in (
-      head.loop-i.invariant.0,
+    let a = c.args in (
+      c.loop-i.invariant.0,
       search rules,
-      holds_more mark a.s.now a.from head.loop-i.i head.loop-i.invariant.2
-          (alike _ v.result turn.t10-1.given v.type_inv c.if-s-i.false ∙ v.ensures),
+      holds_more mark a.s.now a.from c.loop-i.i c.loop-i.invariant.2
+          (alike _ v.result c.t10-1.given v.type_inv c.if-s-i.false ∙ v.ensures),
     )
 
 pub returns : goal.returns

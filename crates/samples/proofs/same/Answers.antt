@@ -12,20 +12,17 @@ loop-i-init c = (search rules, refl, holds_none (stored c.args.bytes.now) c.args
 pub returns-then-s-i : goal.returns-then-s-i
 returns-then-s-i c =
     let v = c.sample_at in
-    let head = c in
-    let a = head.args in
-    no (differs (stored a.bytes.now) a.s.now 0 head.loop-i.i _ v.result v.ensures (omega arith) (search rules) c.if-s-i.true)
+    let a = c.args in
+    no (differs (stored a.bytes.now) a.s.now 0 c.loop-i.i _ v.result v.ensures (omega arith) (search rules) c.if-s-i.true)
 
 pub loop-i-preserved : goal.loop-i-preserved
 loop-i-preserved c =
     let v = c.sample_at in
-    let turn = c in
-    let head = turn in
-    let a = head.args in (
+    let a = c.args in (
       search rules,
       refl,
-      holds_more (stored a.bytes.now) a.s.now 0 head.loop-i.i head.loop-i.invariant.2
-          (alike _ v.result turn.t8-1.given v.type_inv c.if-s-i.false ∙ v.ensures),
+      holds_more (stored a.bytes.now) a.s.now 0 c.loop-i.i c.loop-i.invariant.2
+          (alike _ v.result c.t8-1.given v.type_inv c.if-s-i.false ∙ v.ensures),
     )
 
 pub returns : goal.returns

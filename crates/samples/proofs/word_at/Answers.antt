@@ -27,9 +27,6 @@ returns-then-bytes-at c = nothing c.args.bytes.now c.args.at c.if-bytes-at.true
 
 pub returns : goal.returns
 returns c =
-    let b = c in
-    let e = b in
-    let a = e in
-    let start = a.args in
-    sum start.bytes.now start.at a.byte_at.result e.byte_at-2.result b.byte_at-3.result c.byte_at-4.result
-    a.byte_at.ensures.0 e.byte_at-2.ensures.0 b.byte_at-3.ensures.0 c.byte_at-4.ensures.0
+    let start = c.args in
+    sum start.bytes.now start.at c.byte_at.result c.byte_at-2.result c.byte_at-3.result c.byte_at-4.result
+    c.byte_at.ensures.0 c.byte_at-2.ensures.0 c.byte_at-3.ensures.0 c.byte_at-4.ensures.0

@@ -5,9 +5,8 @@ use Rattle.write.proofs.clear_place.Goals as goal
 
 pub returns-then-slot-home : goal.returns-then-slot-home
 returns-then-slot-home c =
-    let start = c in
-    let a = start.args in
-    moved a.start (placed a.width a.height a.home a.slot) a.pyramid.now a.work.now _ start.requires.0 start.requires.1 c.if-slot-home.true
+    let a = c.args in
+    moved a.start (placed a.width a.height a.home a.slot) a.pyramid.now a.work.now _ c.requires.0 c.requires.1 c.if-slot-home.true
     c.move_part.ensures
 
 pub returns-else-slot-home : goal.returns-else-slot-home

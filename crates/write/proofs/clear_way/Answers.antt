@@ -14,23 +14,17 @@ loop-k-init c =
 
 pub clear_place-requires : goal.clear_place-requires
 clear_place-requires c =
-    let turn = c in
-    let head = turn in
-    let start = head in
-    (head.loop-k.invariant.1 ∙ start.requires.1, start.requires.2.inside head.loop-k.k (omega arith) turn.loop-k-test.true)
+    (c.loop-k.invariant.1 ∙ c.requires.1, c.requires.2.inside c.loop-k.k (omega arith) c.loop-k-test.true)
 
 pub loop-k-preserved : goal.loop-k-preserved
 loop-k-preserved c =
     let put = c.clear_place in
-    let turn = c in
-    let head = turn in
-    let start = head in
-    let a = start.args in
-    let i = head.loop-k.invariant in (
+    let a = c.args in
+    let i = c.loop-k.invariant in (
       omega arith,
       put.auto.work ∙ i.1,
       moving_more a.count (place_at a.widths.now a.heights.now a.homes.now a.slots.now) (λ j. get_or a.starts.now j 0) a.pyramid.now a.work.now
-          start.requires.2 head.loop-k.k turn.loop-k-test.true head.loop-k.work _ i.2 put.ensures,
+          c.requires.2 c.loop-k.k c.loop-k-test.true c.loop-k.work _ i.2 put.ensures,
     )
 
 pub shape_of-work : goal.shape_of-work
@@ -38,6 +32,5 @@ shape_of-work c = c.loop-k.invariant.1
 
 pub returns : goal.returns
 returns c =
-    let head = c in
-    let i = head.loop-k.invariant in
+    let i = c.loop-k.invariant in
     λ picture j h. i.2.done picture j (omega (arith, i.0, c.loop-k-test.false))

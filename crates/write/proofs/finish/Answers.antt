@@ -7,10 +7,9 @@ use Rattle.write.proofs.finish.Goals as goal
 
 pub clear_way-requires : goal.clear_way-requires
 clear_way-requires c =
-    let start = c in
-    let a = start.args in
-    let alike = start.requires.0 in
-    let full = start.requires.1 in (
+    let a = c.args in
+    let alike = c.requires.0 in
+    let full = c.requires.1 in (
       full.few,
       omega (arith, alike.odds_length, alike.evens_length),
       rw alike.odds_length (laid_ranged a.count a.widths.now a.heights.now a.homes.now a.slots.now _ 0 a.count (omega arith) full.laid),
@@ -19,19 +18,15 @@ clear_way-requires c =
 pub settle-requires : goal.settle-requires
 settle-requires c =
     let cleared = c.clear_way in
-    let laid = c in
-    let start = laid in
-    let a = start.args in
-    let alike = start.requires.0 in (
-      start.requires.1.few,
+    let a = c.args in
+    let alike = c.requires.0 in (
+      c.requires.1.few,
       record { odds_length = alike.odds_length; evens_length = cleared.auto.work ∙ alike.evens_length },
-      starting a.count a.widths.now a.heights.now a.homes.now a.slots.now _ _ _ start.requires.1 laid.lay.ensures,
+      starting a.count a.widths.now a.heights.now a.homes.now a.slots.now _ _ _ c.requires.1 c.lay.ensures,
     )
 
 pub returns : goal.returns
 returns c =
-    let cleared = c in
-    let laid = cleared in
-    let a = laid.args in
-    settled_held a.count a.widths.now a.heights.now a.homes.now a.slots.now laid.lay.new.homes a.picture.now a.pyramid.now a.work.now
-    cleared.clear_way.new.work _ cleared.clear_way.ensures c.settle.ensures
+    let a = c.args in
+    settled_held a.count a.widths.now a.heights.now a.homes.now a.slots.now c.lay.new.homes a.picture.now a.pyramid.now a.work.now
+    c.clear_way.new.work _ c.clear_way.ensures c.settle.ensures

@@ -5,10 +5,8 @@ use Rattle.write.proofs.lines_of.Goals as goal
 
 pub returns-then-horizontal : goal.returns-then-horizontal
 returns-then-horizontal c =
-    let start = c in
-    (search rules, (fit_sides start.args.c start.requires).1)
+    (search rules, (fit_sides c.args.c c.requires).1)
 
 pub returns-else-horizontal : goal.returns-else-horizontal
 returns-else-horizontal c =
-    let start = c in
-    (search rules, (fit_sides start.args.c start.requires).0)
+    (search rules, (fit_sides c.args.c c.requires).0)

@@ -6,6 +6,5 @@ use Rattle.write.proofs.move_part.Goals as goal
 
 pub returns : goal.returns
 returns c =
-    let start = c in
-    let a = start.args in
-    copy_put a.at (a.at + a.n) a.n refl a.from.now a.to.now _ a.start (a.start + a.n) refl start.requires.0 start.requires.1 c.copy.ensures
+    let a = c.args in
+    copy_put a.at (a.at + a.n) a.n refl a.from.now a.to.now _ a.start (a.start + a.n) refl c.requires.0 c.requires.1 c.copy.ensures

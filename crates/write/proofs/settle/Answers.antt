@@ -13,28 +13,22 @@ loop-k-init c =
 
 pub settle_place-requires : goal.settle_place-requires
 settle_place-requires c =
-    let turn = c in
-    let head = turn in
-    let start = head in
-    let a = start.args in
-    let alike = start.requires.1 in
-    let inside = start.requires.2.inside head.loop-k.k turn.loop-k-test.true in
+    let a = c.args in
+    let alike = c.requires.1 in
+    let inside = c.requires.2.inside c.loop-k.k c.loop-k-test.true in
     let r = room a.picture.now a.pyramid.now a.work.now a.count (place_at a.widths.now a.heights.now a.homes.now a.slots.now) a.starts.now
-    start.requires.2 alike head.loop-k.k turn.loop-k-test.true in
-    (inside, omega (arith, alike.evens_length), omega (arith, alike.odds_length, head.loop-k.invariant.1))
+    c.requires.2 alike c.loop-k.k c.loop-k-test.true in
+    (inside, omega (arith, alike.evens_length), omega (arith, alike.odds_length, c.loop-k.invariant.1))
 
 pub loop-k-preserved : goal.loop-k-preserved
 loop-k-preserved c =
     let put = c.settle_place in
-    let turn = c in
-    let head = turn in
-    let start = head in
-    let a = start.args in
-    let i = head.loop-k.invariant in (
+    let a = c.args in
+    let i = c.loop-k.invariant in (
       omega arith,
       put.auto.pyramid ∙ i.1,
-      settling_more a.picture.now a.pyramid.now a.work.now a.count (place_at a.widths.now a.heights.now a.homes.now a.slots.now) a.starts.now start.requires.2 start.requires.1
-          head.loop-k.k turn.loop-k-test.true head.loop-k.pyramid _ i.2 put.ensures,
+      settling_more a.picture.now a.pyramid.now a.work.now a.count (place_at a.widths.now a.heights.now a.homes.now a.slots.now) a.starts.now c.requires.2 c.requires.1
+          c.loop-k.k c.loop-k-test.true c.loop-k.pyramid _ i.2 put.ensures,
     )
 
 pub shape_of-pyramid : goal.shape_of-pyramid
@@ -42,9 +36,7 @@ shape_of-pyramid c = c.loop-k.invariant.1
 
 pub returns : goal.returns
 returns c =
-    let head = c in
-    let start = head in
-    let a = start.args in
-    let i = head.loop-k.invariant in
-    settling_all a.picture.now a.pyramid.now a.work.now a.count (place_at a.widths.now a.heights.now a.homes.now a.slots.now) a.starts.now start.requires.2 start.requires.1
-    head.loop-k.pyramid head.loop-k.k (omega (arith, i.0, c.loop-k-test.false)) i.2
+    let a = c.args in
+    let i = c.loop-k.invariant in
+    settling_all a.picture.now a.pyramid.now a.work.now a.count (place_at a.widths.now a.heights.now a.homes.now a.slots.now) a.starts.now c.requires.2 c.requires.1
+    c.loop-k.pyramid c.loop-k.k (omega (arith, i.0, c.loop-k-test.false)) i.2

@@ -7,21 +7,18 @@ use Rattle.write.proofs.settle_place.Goals as goal
 
 pub returns-then-slot-eq-UNMADE : goal.returns-then-slot-eq-UNMADE
 returns-then-slot-eq-UNMADE c =
-    let start = c in
-    let a = start.args in
+    let a = c.args in
     rw (from_picture a.picture.now a.work.now a.start (placed a.width a.height a.home a.slot) a.pyramid.now c.if-slot-eq-UNMADE.true)
     c.move_part.ensures
 
 pub returns-then-slot-home : goal.returns-then-slot-home
 returns-then-slot-home c =
-    let branch = c in
-    let a = branch.args in
-    rw (from_work a.picture.now a.work.now a.start (placed a.width a.height a.home a.slot) a.pyramid.now branch.if-slot-eq-UNMADE.false branch.if-slot-home.true)
+    let a = c.args in
+    rw (from_work a.picture.now a.work.now a.start (placed a.width a.height a.home a.slot) a.pyramid.now c.if-slot-eq-UNMADE.false c.if-slot-home.true)
     c.move_part-then-slot-home.ensures
 
 pub returns-else-slot-home : goal.returns-else-slot-home
 returns-else-slot-home c =
-    let start = c in
-    let a = start.args in
+    let a = c.args in
     rw (in_pyramid a.picture.now a.work.now a.start (placed a.width a.height a.home a.slot) a.pyramid.now c.if-slot-eq-UNMADE.false c.if-slot-home.false)
-    (sym (part_again a.start (a.width * a.height) a.pyramid.now start.requires.2))
+    (sym (part_again a.start (a.width * a.height) a.pyramid.now c.requires.2))

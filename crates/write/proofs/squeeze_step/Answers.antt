@@ -22,36 +22,30 @@ alike c =
 
 pub loop-k-init : goal.loop-k-init
 loop-k-init c =
-    let start = c in
-    let a = start.args in
-    let end = start.requires.1 in
+    let a = c.args in
+    let end = c.requires.1 in
     (omega arith, omega arith, refl, refl, squeezed_none a.step.horizontal (place_at a.widths.now a.heights.now a.homes.now a.slots.now) a.step.begin 0 a.picture.now a.odd.now a.even.now)
 
 pub squeeze_place-requires : goal.squeeze_place-requires
 squeeze_place-requires c =
-    let turn = c in
-    let head = turn in
-    let p = head.requires in
-    let l = head.loop-k in (
-      alike head.before.before.before.before.before.before.before.before.before.before.before.before,
-      p.2.inside l.k l.invariant.0 turn.loop-k-test.true,
-      p.3 l.k l.invariant.0 turn.loop-k-test.true,
+    let p = c.requires in
+    let l = c.loop-k in (
+      alike c.before.before.before.before.before.before.before.before.before.before.before.before,
+      p.2.inside l.k l.invariant.0 c.loop-k-test.true,
+      p.3 l.k l.invariant.0 c.loop-k-test.true,
     )
 
 pub loop-k-preserved : goal.loop-k-preserved
 loop-k-preserved c =
     let put = c.squeeze_place in
-    let turn = c in
-    let head = turn in
-    let start = head in
-    let a = start.args in
-    let i = head.loop-k.invariant in (
+    let a = c.args in
+    let i = c.loop-k.invariant in (
       omega arith,
       omega arith,
       put.auto.odd ∙ i.2,
       put.auto.even ∙ i.3,
       squeezed_more a.step.horizontal (place_at a.widths.now a.heights.now a.homes.now a.slots.now) a.step.begin (a.step.begin + a.step.number) a.picture.now a.odd.now a.even.now
-          start.requires.2 head.loop-k.k i.0 turn.loop-k-test.true head.loop-k.odd head.loop-k.even _ _ i.4 put.ensures,
+          c.requires.2 c.loop-k.k i.0 c.loop-k-test.true c.loop-k.odd c.loop-k.even _ _ i.4 put.ensures,
     )
 
 pub shape_of-odd : goal.shape_of-odd
@@ -62,7 +56,6 @@ shape_of-even c = c.loop-k.invariant.3
 
 pub returns : goal.returns
 returns c =
-    let head = c in
-    let i = head.loop-k.invariant in
-    let e : head.loop-k.k ≡ head.args.step.begin + head.args.step.number = omega (arith, i.1, c.loop-k-test.false) in
+    let i = c.loop-k.invariant in
+    let e : c.loop-k.k ≡ c.args.step.begin + c.args.step.number = omega (arith, i.1, c.loop-k-test.false) in
     rw e at i.4

@@ -32,10 +32,9 @@ running c = c.loop-k.invariant.0 c.args.list c.requires
 reached : (c : After-step-step) → let l = c.loop-k in let s = c.step-step.result in let n = length (places_in l.count l.widths l.heights l.homes l.slots) in
     (n ≡ l.count) × (s.begin + s.number ≤ n) × (n + s.number ≤ max_channels)
 reached c =
-    let head = c in
-    let a = head.args in
-    let l = head.loop-k in
-    let r = reach (channels a.list) a.steps a.picture.now _ _ _ l.k (running head.before.before) c.loop-k-test.true c.step-step.result c.step-step.ensures in
+    let a = c.args in
+    let l = c.loop-k in
+    let r = reach (channels a.list) a.steps a.picture.now _ _ _ l.k (running c.before.before) c.loop-k-test.true c.step-step.result c.step-step.ensures in
     (places_length l.count l.widths l.heights l.homes l.slots, r.0, r.1)
 
 pub loop-k-init : goal.loop-k-init
@@ -45,11 +44,9 @@ loop-k-init c =
 
 pub squeeze_step-requires : goal.squeeze_step-requires
 squeeze_step-requires c =
-    let step = c in
-    let head = step in
-    let l = head.loop-k in
-    let r = reached step.before.before in
-    let w = running head.before.before.before.before in (
+    let l = c.loop-k in
+    let r = reached c.before.before in
+    let w = running c.before.before.before.before in (
       w.alike,
       omega (arith, r),
       laid_ranged l.count l.widths l.heights l.homes l.slots _ _ _ (omega (arith, r)) w.laid,
@@ -59,17 +56,15 @@ squeeze_step-requires c =
 pub loop-k-preserved : goal.loop-k-preserved
 loop-k-preserved c =
     let put = c.squeeze_step in
-    let step = c in
-    let head = step in
-    let a = head.args in
-    let l = head.loop-k in
-    let r = reached step.before.before.before.before.before.before.before.before.before.before in
+    let a = c.args in
+    let l = c.loop-k in
+    let r = reached c.before.before.before.before.before.before.before.before.before.before in
     let lo = put.auto.odd in
     let le = put.auto.even in (
       λ list b.
-          running_more (channels list) a.steps a.picture.now _ l.odd l.even l.k (l.invariant.0 list b) step.loop-k-test.true step.step-step.result step.step-step.ensures _ _ lo le
+          running_more (channels list) a.steps a.picture.now _ l.odd l.even l.k (l.invariant.0 list b) c.loop-k-test.true c.step-step.result c.step-step.ensures _ _ lo le
           (squeezed_places l.count l.widths l.heights l.homes l.slots _ _ _ _ _ _ _ _ (omega (arith, r)) put.ensures) _
-          (c.place_step-count.ensures.1 ∙ places_stepped l.count l.widths l.heights l.homes l.slots step.step-step.result r.1 r.2),
+          (c.place_step-count.ensures.1 ∙ places_stepped l.count l.widths l.heights l.homes l.slots c.step-step.result r.1 r.2),
       lo ∙ l.invariant.1,
       le ∙ l.invariant.2,
     )
@@ -82,10 +77,9 @@ shape_of-even c = c.loop-k.invariant.2
 
 pub returns : goal.returns
 returns c =
-    let head = c in
-    let a = head.args in
-    let l = head.loop-k in
-    let w = running head.before in
+    let a = c.args in
+    let l = c.loop-k in
+    let w = running c.before in
     let n = places_length l.count l.widths l.heights l.homes l.slots in
     record {
       full =

@@ -69,9 +69,8 @@ returns-then-answer-ne0 c =
 
 pub returns-then-not-picture-total : goal.returns-then-not-picture-total
 returns-then-not-picture-total c =
-    let rewrote = c in
-    let a = rewrote.args in
-    let ok = sym (judged rewrote.before.before.before) ∙ c.if-answer-ne0.false in
+    let a = c.args in
+    let ok = sym (judged c.before.before.before) ∙ c.if-answer-ne0.false in
     slices_refused a.version a.list a.steps a.picture.now a.pyramid.now a.work.now ok
     (no (fit_tested a.version a.list a.steps ok c.total-total.result c.total-total.ensures a.picture.now a.pyramid.now a.work.now) c.if-not-picture-total.true)
 
@@ -84,8 +83,7 @@ run-requires c =
 
 pub returns : goal.returns
 returns c =
-    let ran = c in
-    let m = ran.before.before.before.before.before.before.before.before.before in
+    let m = c.before.before.before.before.before.before.before.before.before in
     let a = (start m).args in
     accepted a.version a.list a.steps a.picture.now a.pyramid.now a.work.now (plan (passed m)) (slices (passed m)) _ _
-    (rw (taken m) at ran.run.ensures) (c.clear.ensures ∙ zeros_same _ a.work.now ran.run.auto.work)
+    (rw (taken m) at c.run.ensures) (c.clear.ensures ∙ zeros_same _ a.work.now c.run.auto.work)
