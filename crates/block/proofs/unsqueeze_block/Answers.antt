@@ -25,12 +25,12 @@ loop-i-preserved c =
     let pair = c.unsqueeze_lane-p in
     let firsts = c.loop-i.invariant.0 in
     let seconds = c.loop-i.invariant.1 in
-    let b1 = back32 (get_or c.loop-i.firsts i (pos 0)) c.unsqueeze_lane-arg-1.given ∙ firsts.rest i (omega arith) in
-    let b2 = back32 (get_or a.res i (pos 0)) c.unsqueeze_lane-arg-in-loop-i-1.given in
-    let b3 = back32 (get_or a.next i (pos 0)) c.unsqueeze_lane-arg-in-loop-i-2-1.given in
-    let b4 = back32 (get_or c.loop-i.seconds i (pos 0)) c.unsqueeze_lane-arg-in-loop-i-3-1.given ∙ seconds.rest i (omega arith) in
-    let e1 = back32 pair.result.first c.struct_told-1.given.0.1 ∙ rw (b1, b2, b3, b4) at pair.ensures.0 in
-    let e2 = back32 pair.result.second c.struct_told-in-loop-i-1.given.1.0.1 ∙ rw (b1, b2, b3, b4) at pair.ensures.1 in (
+    let b1 = back32 (get_or c.loop-i.firsts i (pos 0)) (search rules) ∙ firsts.rest i (omega arith) in
+    let b2 = back32 (get_or a.res i (pos 0)) (search rules) in
+    let b3 = back32 (get_or a.next i (pos 0)) (search rules) in
+    let b4 = back32 (get_or c.loop-i.seconds i (pos 0)) (search rules) ∙ seconds.rest i (omega arith) in
+    let e1 = back32 pair.result.first (search rules) ∙ rw (b1, b2, b3, b4) at pair.ensures.0 in
+    let e2 = back32 pair.result.second (search rules) ∙ rw (b1, b2, b3, b4) at pair.ensures.1 in (
       filled_more first a.avg a.res a.next a.prev a.avg 8 c.loop-i.firsts i _ firsts l e1,
       filled_more second a.avg a.res a.next a.prev a.prev 8 c.loop-i.seconds i _ seconds l e2,
       omega arith,

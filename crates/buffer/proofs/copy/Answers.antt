@@ -19,7 +19,7 @@ loop-i-preserved c =
     let w = head.loop-i.invariant in
     let l = w.1 in
     let b = head.before.smaller-n.ensures in (
-      rw w.0 (overwritten_more a.from.now a.to.now i _ (omega arith) (omega arith) (to_z-of_z {w = w32} (record { sfits = c.to-1.given }))),
+      rw w.0 (overwritten_more a.from.now a.to.now i _ (omega arith) (omega arith) (to_z-of_z {w = w32} (search rules))),
       simp length-set l,
       search rules,
     )

@@ -45,12 +45,12 @@ loop-x-preserved c =
     let i = p.inside in
     let l = c.loop-x.invariant.3.long in
     let pair = c.unsqueeze-p in
-    let b1 = back32 (get_or a.avg.now x (pos 0)) c.unsqueeze-arg-1.given in
-    let b2 = back32 (get_or a.res.now x (pos 0)) c.unsqueeze-arg-in-loop-x-1.given in
-    let b3 = back32 (get_or a.next.now x (pos 0)) c.unsqueeze-arg-in-loop-x-2-1.given in
-    let b4 = back32 (get_or s (a.from + x) (pos 0)) c.unsqueeze-arg-in-loop-x-3-1.given in
-    let e1 = back32 pair.result.first c.struct_told-1.given.0.1 ∙ rw (b1, b2, b3, b4) at pair.ensures.0 in
-    let e2 = back32 pair.result.second c.struct_told-in-loop-x-1.given.1.0.1 ∙ rw (b1, b2, b3, b4) at pair.ensures.1 in (
+    let b1 = back32 (get_or a.avg.now x (pos 0)) (search rules) in
+    let b2 = back32 (get_or a.res.now x (pos 0)) (search rules) in
+    let b3 = back32 (get_or a.next.now x (pos 0)) (search rules) in
+    let b4 = back32 (get_or s (a.from + x) (pos 0)) (search rules) in
+    let e1 = back32 pair.result.first (search rules) ∙ rw (b1, b2, b3, b4) at pair.ensures.0 in
+    let e2 = back32 pair.result.second (search rules) ∙ rw (b1, b2, b3, b4) at pair.ensures.1 in (
       refl,
       omega arith,
       omega arith,

@@ -3,6 +3,7 @@ use mathlib.Core.Path.{refl}
 use Prim.Native.Nat.{◌+◌, ◌<◌}
 use native.Mathlib.Omega.{arith}
 use borrow.Author.Tests.{lt-leb}
+use borrow.Author.Rules.{rules}
 use lib.IntN.{pos}
 use lib.ListN.{length, get_or, drop}
 use lib.Seq.{paste-zero}
@@ -32,7 +33,7 @@ pub loop-i-preserved : goal.loop-i-preserved
 loop-i-preserved c =
     let a = c.args in
     let i = c.loop-i.i in
-    let x = back32 (get_or a.s.now (a.at + i) (pos 0)) c.b-1.given in
+    let x = back32 (get_or a.s.now (a.at + i) (pos 0)) (search rules) in
     (rw x (load_more c.loop-i.b _ a.s.now a.at i c.loop-i.invariant.0 c.loop-i.invariant.1 (omega arith) (omega arith)), refl, omega arith, omega arith)
 
 pub returns : goal.returns

@@ -1,5 +1,6 @@
 -- `probe_squeeze` meets its contract: nothing for another length than two, else average and residual (proofs/Both.antt). Assumes nothing.
 use mathlib.Core.Path.{◌∙◌}
+use borrow.Author.Rules.{rules}
 use mir.Facts.{to_z-of_z}
 use Rattle.arith32.proofs.Whole.{back32}
 use Rattle.pair.specs.Pair as Pair
@@ -17,8 +18,8 @@ returns c =
     let s = c.squeeze-s in
     let x = to_z-of_z c.ranges.first in
     let y = to_z-of_z c.ranges.second in
-    let a = back32 s.result.average c.struct_told-1.given.0.1 in
-    let d = back32 s.result.difference c.struct_told-2-1.given.1.0.1 in
+    let a = back32 s.result.average (search rules) in
+    let d = back32 s.result.difference (search rules) in
     let ea = rw (x, y) at s.ensures.0 in
     let ed = rw (x, y) at s.ensures.1 in
     written c.args.out.now c.if-out-ne2.false

@@ -1,5 +1,6 @@
 -- `probe_unsqueeze` meets its contract: nothing for another length than two, else the pair (proofs/Both.antt). Assumes nothing.
 use mathlib.Core.Path.{◌∙◌}
+use borrow.Author.Rules.{rules}
 use mir.Facts.{to_z-of_z}
 use Rattle.arith32.proofs.Whole.{back32}
 use Rattle.probe.specs.Probe.{unsqueezed}
@@ -19,5 +20,5 @@ returns c =
     let n = to_z-of_z c.ranges.next in
     let v = to_z-of_z c.ranges.prev in
     written c.args.out.now c.if-out-ne2.false
-    (back32 p.result.first c.struct_told-1.given.0.1 ∙ rw (a, r, n, v) at p.ensures.0)
-    (back32 p.result.second c.struct_told-2-1.given.1.0.1 ∙ rw (a, r, n, v) at p.ensures.1)
+    (back32 p.result.first (search rules) ∙ rw (a, r, n, v) at p.ensures.0)
+    (back32 p.result.second (search rules) ∙ rw (a, r, n, v) at p.ensures.1)

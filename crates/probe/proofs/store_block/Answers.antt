@@ -35,7 +35,7 @@ pub loop-i-preserved : goal.loop-i-preserved
 loop-i-preserved c =
     let a = c.args in
     let i = c.loop-i.i in
-    let x = back32 (get_or a.b i (pos 0)) c.s-1.given in (
+    let x = back32 (get_or a.b i (pos 0)) (search rules) in (
       rw x (store_more c.loop-i.s a.s.now a.b a.at i c.loop-i.invariant.0 c.loop-i.invariant.2 (omega arith) (omega arith)),
       simp length-set c.loop-i.invariant.1,
       c.loop-i.invariant.2,

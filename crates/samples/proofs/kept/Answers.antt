@@ -25,7 +25,7 @@ loop-i-preserved c =
       c.loop-i.invariant.0,
       search rules,
       holds_more mark a.s.now a.from c.loop-i.i c.loop-i.invariant.2
-          (alike _ v.result c.t10-1.given v.type_inv c.if-s-i.false ∙ v.ensures),
+          (alike _ v.result (search rules) v.type_inv c.if-s-i.false ∙ v.ensures),
     )
 
 pub returns : goal.returns

@@ -22,7 +22,7 @@ loop-i-preserved c =
       search rules,
       refl,
       holds_more (stored a.bytes.now) a.s.now 0 c.loop-i.i c.loop-i.invariant.2
-          (alike _ v.result c.t8-1.given v.type_inv c.if-s-i.false ∙ v.ensures),
+          (alike _ v.result (search rules) v.type_inv c.if-s-i.false ∙ v.ensures),
     )
 
 pub returns : goal.returns

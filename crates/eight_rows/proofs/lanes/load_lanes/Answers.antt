@@ -2,6 +2,7 @@
 use mathlib.Core.Path.{refl}
 use Prim.Native.Nat.{◌+◌, ◌*◌, ◌<◌}
 use native.Mathlib.Omega.{arith}
+use borrow.Author.Rules.{rules}
 use lib.IntN.{pos}
 use lib.ListN.{length, get_or}
 use Rattle.arith32.proofs.Whole.{back32}
@@ -34,7 +35,7 @@ loop-k-preserved c =
     let a = c.args in
     let k = c.loop-k.k in
     loaded_more a.s.now a.at a.stride c.loop-k.b k _ (omega arith)
-    (back32 (get_or a.s.now (a.at + k * a.stride) (pos 0)) c.b-1.given)
+    (back32 (get_or a.s.now (a.at + k * a.stride) (pos 0)) (search rules))
     c.loop-k.invariant
 
 pub returns : goal.returns

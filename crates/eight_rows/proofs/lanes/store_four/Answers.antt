@@ -3,6 +3,7 @@
 use mathlib.Core.Path.{◌≡◌, refl, ◌∙◌}
 use Prim.Native.Nat.{◌+◌, ◌*◌, ◌<◌}
 use native.Mathlib.Omega.{arith}
+use borrow.Author.Rules.{rules}
 use lib.IntN.{pos}
 use lib.ListN.{length, get_or, length-set}
 use Rattle.arith32.proofs.Whole.{back32}
@@ -64,10 +65,10 @@ pub loop-k-preserved : goal.loop-k-preserved
 loop-k-preserved c =
     let a = c.args in
     let k = c.loop-k.k in
-    let b1 = back32 (get_or a.a k (pos 0)) c.s-1.given in
-    let b2 = back32 (get_or a.b k (pos 0)) c.s-in-loop-k-1.given in
-    let b3 = back32 (get_or a.c k (pos 0)) c.s-in-loop-k-2-1.given in
-    let b4 = back32 (get_or a.d k (pos 0)) c.s-in-loop-k-3-1.given in (
+    let b1 = back32 (get_or a.a k (pos 0)) (search rules) in
+    let b2 = back32 (get_or a.b k (pos 0)) (search rules) in
+    let b3 = back32 (get_or a.c k (pos 0)) (search rules) in
+    let b4 = back32 (get_or a.d k (pos 0)) (search rules) in (
       rw (b1, b2, b3, b4, c.loop-k.invariant.0) (fours_more a.s.now a.at a.stride a.a a.b a.c a.d k c.requires.1),
       simp length-set c.loop-k.invariant.1,
       omega arith,

@@ -3,6 +3,7 @@ use mathlib.Core.Path.{◌≡◌, refl}
 use Prim.Native.Nat.{◌+◌, ◌*◌, ◌<◌}
 use native.Mathlib.Omega.{arith}
 use native.Mathlib.Numerals.{add-one}
+use borrow.Author.Rules.{rules}
 use lib.IntN.{pos}
 use lib.ListN.{length, get_or, length-set}
 use Rattle.arith32.proofs.Whole.{back32}
@@ -40,7 +41,7 @@ pub loop-k-preserved : goal.loop-k-preserved
 loop-k-preserved c =
     let a = c.args in
     let k = c.loop-k.k in
-    let x = back32 (get_or a.b k (pos 0)) c.s-1.given in
+    let x = back32 (get_or a.b k (pos 0)) (search rules) in
     (rw (x, add-one, c.loop-k.invariant.0) refl, simp length-set c.loop-k.invariant.1, omega arith)
 
 pub returns : goal.returns

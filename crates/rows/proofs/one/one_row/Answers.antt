@@ -1,6 +1,7 @@
 -- `one_row` meets its contract: the ordinary pairs and the row's end put together, or, without a pair, the average copied. Assumes nothing.
 use mathlib.Core.Path.{◌∙◌}
 use native.Mathlib.Omega.{arith}
+use borrow.Author.Rules.{rules}
 use lib.IntN.{pos}
 use lib.ListN.{length, get_or, length-set}
 use lib.Seq.{get_or-set_same}
@@ -13,7 +14,7 @@ pub returns-then-n-eq0 : goal.returns-then-n-eq0
 returns-then-n-eq0 c =
     let a = c.args in
     let e = c.requires.2 in
-    let b = back32 (get_or a.avg.now 0 (pos 0)) c.out-1.given in
+    let b = back32 (get_or a.avg.now 0 (pos 0)) (search rules) in
     copied c.requires.0 c.if-n-eq0.true (simp length-set (omega arith))
     (λ k hk _.
     rw (own_place (length a.avg.now) (length a.res.now) a.avg.now a.res.now k 0 hk)
@@ -22,7 +23,7 @@ returns-then-n-eq0 c =
 pub returns : goal.returns
 returns c =
     let a = c.args in
-    let b0 = back32 (get_or a.avg.now 0 (pos 0)) c.outer_sample-arg-1.given in
+    let b0 = back32 (get_or a.avg.now 0 (pos 0)) (search rules) in
     let b1 = back32 c.outer_sample.result c.outer_sample.type_inv in
     let b2 = back32 c.ordinary_pairs-before.result c.ordinary_pairs-before.type_inv in
     put_together c.requires.0 (omega arith)

@@ -3,6 +3,7 @@
 use mathlib.Core.Path.{◌≡◌, refl, ◌∙◌}
 use Prim.Native.Nat.{◌+◌}
 use native.Mathlib.Omega.{arith}
+use borrow.Author.Rules.{rules}
 use mir.Facts.{to_z-of_z}
 use lib.IntN.{pos}
 use lib.ListN.{length, get_or, length-set}
@@ -23,16 +24,16 @@ loop-i-preserved c =
     let a = c.args in
     let i = c.loop-i.i in
     let l = c.loop-i.invariant.0.long in
-    let b1 = back32 (get_or a.avg.now i (pos 0)) c.unsqueeze-arg-1.given in
-    let b2 = back32 (get_or a.res.now i (pos 0)) c.unsqueeze-arg-in-loop-i-1.given in
-    let b3 = back32 (get_or a.avg.now (i + 1) (pos 0)) c.unsqueeze-arg-in-loop-i-2-1.given in
+    let b1 = back32 (get_or a.avg.now i (pos 0)) (search rules) in
+    let b2 = back32 (get_or a.res.now i (pos 0)) (search rules) in
+    let b3 = back32 (get_or a.avg.now (i + 1) (pos 0)) (search rules) in
     let z : 0 + i ≡ i = omega arith in (
       join c.requires.0 (omega arith) c.loop-i.invariant.0
           (rw z
           (row_ordinary (length a.avg.now) (length a.res.now) a.avg.now a.res.now c.loop-i.out (get_or a.avg.now (i + 1) (pos 0)) _ _ _ i
           (omega arith) c.requires.0 (omega arith)
-          (back32 pair.result.first c.struct_told-1.given.0.1 ∙ rw (b1, b2, b3) at pair.ensures.0)
-          (back32 pair.result.second c.struct_told-in-loop-i-1.given.1.0.1 ∙ rw (b1, b2, b3) at pair.ensures.1)
+          (back32 pair.result.first (search rules) ∙ rw (b1, b2, b3) at pair.ensures.0)
+          (back32 pair.result.second (search rules) ∙ rw (b1, b2, b3) at pair.ensures.1)
           refl)),
       omega arith,
     )

@@ -2,6 +2,7 @@
 use mathlib.Core.Path.{sym, ◌∙◌}
 use Prim.Native.Nat.{◌<◌}
 use native.Mathlib.Omega.{arith}
+use borrow.Author.Rules.{rules}
 use mir.Facts.{to_z-of_z}
 use lib.IntN.{pos}
 use lib.ListN.{length, get_or}
@@ -18,4 +19,4 @@ pub returns-else-line-eq0 : goal.returns-else-line-eq0
 returns-else-line-eq0 c =
     let a = c.args in
     let h : 0 < length a.line.now = omega arith in
-    back32 (get_or a.line.now 0 (pos 0)) c.result-1.given ∙ sym (outer_some a.line.now 0 a.other h)
+    back32 (get_or a.line.now 0 (pos 0)) (search rules) ∙ sym (outer_some a.line.now 0 a.other h)
