@@ -306,6 +306,7 @@ fn played(name: &str) -> (Place, OsString) {
          echo 'logic=proved functions=1'\n\
          k=0; while [ -f wait ] && [ $k -lt 100 ]; do sleep 0.1; k=$((k + 1)); done\n\
          sleep 0.1\n\
+         echo 'library two: modules loaded=3 checked=0'\n\
          echo 'rt: chose --jobs 2 for squeeze_list'\n\
          echo 'logic=proved functions=2'\n\
          rmdir alone\n\
