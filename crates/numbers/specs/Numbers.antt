@@ -1,5 +1,7 @@
 -- The numbers of documents 01 and 02 that more than one crate uses: two limits, and what each refusal answers ("The questions"). Definitions only.
-use Rattle.std.specs.Prelude.{ℕ}
+use Rattle.std.specs.Prelude.{ℕ, Result, Ok, Err}
+use Rattle.numbers.specs.declared.Refusal.{Refusal}
+use Rattle.numbers.specs.declared.Refusal.TheVariants.{Outside, Field, Count, Form, Samples, Default, Range, Kinds, Place, Empty, Room, Sizes, Tile, Length}
 
 -- A.8: "Raise a side's limit to 1,048,575, in tile calls too"
 abbrev pub max_side : ℕ
@@ -64,3 +66,25 @@ refused_tile = 14
 -- 14. "Has each sample slice exactly its length, and a slice for the record at least the bytes needed?"
 abbrev pub refused_length : ℕ
 refused_length = 12
+
+-- ---- the refusals as values, each with its number
+abbrev pub number_of : Refusal → ℕ
+number_of Outside = refused_outside
+number_of Field = refused_field
+number_of Count = refused_count
+number_of Form = refused_form
+number_of Samples = refused_samples
+number_of Default = refused_default
+number_of Range = refused_range
+number_of Kinds = refused_kinds
+number_of Place = refused_place
+number_of Empty = refused_empty
+number_of Room = refused_room
+number_of Sizes = refused_sizes
+number_of Tile = refused_tile
+number_of Length = refused_length
+
+-- what a call answers: 0, or the refusal's number
+abbrev pub answer_of : {A : Type 0} → Result A Refusal → ℕ
+answer_of (Ok _) = 0
+answer_of (Err refusal) = number_of refusal
