@@ -1,13 +1,13 @@
-// A channel of a picture (document 01, "The entry"): its sides, and its two
-// shifts, both 255 for a meta channel. Total on every value of the fields.
+// A channel of a picture: its sides, and its two shifts, both 255 for a meta
+// channel. Total on every value of the fields.
 #![tactic(auto)]
 
-ghost use Rattle.std.specs.Prelude.{◌≡◌};
+ghost use Rattle.std.specs.Prelude.{◌≡◌, cond};
 ghost use Rattle.channel.specs.Channel as Spec;
 
 use numbers::MAX_SIDE;
 
-#[derive(Clone, Copy)]
+#[derive(Clone, Copy, PartialEq, Eq, Debug)]
 pub struct Channel {
     pub width: u32,
     pub height: u32,
@@ -26,26 +26,32 @@ impl Channel {
         (self.hshift == Channel::META) & (self.vshift == Channel::META)
     }
 
-    // Question 4, of its shifts.
+    // Shifts of 0 to 30, or both 255.
     pub fn has_shifts_allowed(self) -> bool
         ensures { result ≡ Spec.shifts_allowed self }
     {
-        ((self.hshift == Channel::META) & (self.vshift == Channel::META))
-            | ((self.hshift <= Channel::MAX_SHIFT) & (self.vshift <= Channel::MAX_SHIFT))
+        self.is_meta() | ((self.hshift <= Channel::MAX_SHIFT) & (self.vshift <= Channel::MAX_SHIFT))
     }
 
-    // Question 4, of its sides, which may hold more than the limit.
+    // The sides, which may hold more than the limit.
     fn has_sides_allowed(self) -> bool
         ensures { result ≡ Spec.sides_fit self }
     {
         (self.width as usize <= MAX_SIDE) & (self.height as usize <= MAX_SIDE)
     }
 
-    // Question 4, of one channel.
+    // Shifts and sides.
     pub fn is_allowed(self) -> bool
         ensures { result ≡ Spec.is_allowed self }
     {
         self.has_shifts_allowed() & self.has_sides_allowed()
+    }
+
+    // The side that a step halves: the width of a horizontal one, else the height.
+    pub fn side(self, horizontal: bool) -> u32
+        ensures { result ≡ cond horizontal self.width self.height }
+    {
+        if horizontal { self.width } else { self.height }
     }
 
     pub fn samples(self) -> u64

@@ -1,7 +1,7 @@
 -- Flat arrays of zeros that are filled from the front with a list of channels and their origins. Assumes nothing.
 use mathlib.Core.Path.{◌≡◌, refl, sym, ap, ◌∙◌}
 use mathlib.Core.Bool.{Bool, true, false}
-use mathlib.Core.List.{List}
+use mathlib.Core.List.{List, []}
 use Prim.Native.Nat.{ℕ, zero, suc, ◌+◌, ◌<◌, ◌≤◌}
 use native.Mathlib.Omega.{arith}
 use borrow.Author.Count.{below_more}
@@ -12,7 +12,7 @@ use lib.Seq.{ext_get_or, get_or-set_same, get_or-set_other}
 use Rattle.channel.specs.declared.Channel.{Channel}
 use Rattle.list.specs.declared.ChannelList.{ChannelList}
 use Rattle.list.specs.Tables.{padded, map}
-use Rattle.list.specs.Lists.{max_channels, holding, stored}
+use Rattle.list.specs.Lists.{max_channels, holding, packed, pushed}
 use Rattle.list.specs.Questions.{channel_of}
 use Rattle.list.proofs.Tables.{table_length, table_at}
 use Rattle.list.proofs.Maps.{map_length, map_default}
@@ -95,15 +95,6 @@ module _ (cs : List Channel) (os ws hs us vs ps : List ℕ) (k : ℕ) (w : Filli
         origins = filled_more max_channels _ ps k w.origins o h eo;
       }
 
-  -- the same by what `store` leaves
-  pub filling_stored : (c : Channel) (o : ℕ) → k < max_channels → c ≡ channel_of cs k → o ≡ get_or os k 0 → {ws' hs' us' vs' ps' : List ℕ}
-      → (ws' ≡ stored k c.width ws) × (hs' ≡ stored k c.height hs) × (us' ≡ stored k c.hshift us) × (vs' ≡ stored k c.vshift vs) × (ps' ≡ stored k o ps)
-      → Filling cs os ws' hs' us' vs' ps' (k + 1)
-  unfolding stored
-  filling_stored c o h e eo s =
-      let t = lt-ltb k max_channels h in
-      rw (s.0, s.1, s.2, s.3, s.4, t) (filling_more c o h e eo)
-
   pub filling_all : (n : ℕ) → n ≡ length cs → length os ≡ n → n ≤ k
       → ◌≡◌ {A = ChannelList} (record { count = n; widths = ws; heights = hs; hshifts = us; vshifts = vs; origins = ps }) (holding cs os)
   unfolding holding
@@ -114,3 +105,23 @@ module _ (cs : List Channel) (os ws hs us vs ps : List ℕ) (k : ℕ) (w : Filli
       let ev = filled_all max_channels _ vs k w.vshifts (omega (arith, map_length (λ (c : Channel). c.vshift) cs)) in
       let ep = filled_all max_channels _ ps k w.origins (omega arith) in
       λ i. record { count = e i; widths = ew i; heights = eh i; hshifts = eu i; vshifts = ev i; origins = ep i }
+
+-- the same of a list of so many channels, which `push` adds the next to
+abbrev pub FillingList : List Channel → List ℕ → ChannelList → Type 0
+FillingList cs os l = Filling cs os l.widths l.heights l.hshifts l.vshifts l.origins l.count
+
+pub filling_empty : (cs : List Channel) (os : List ℕ) → FillingList cs os (packed [])
+unfolding holding
+filling_empty cs os = filling_none cs os
+
+pub filling_pushed : (cs : List Channel) (os : List ℕ) (l : ChannelList) → FillingList cs os l → l.count < max_channels
+    → (c : Channel) (o : ℕ) → c ≡ channel_of cs l.count → o ≡ get_or os l.count 0 → FillingList cs os (pushed l c o)
+unfolding pushed
+filling_pushed cs os l w h c o e eo = rw (lt-ltb l.count max_channels h) (filling_more cs os l.widths l.heights l.hshifts l.vshifts l.origins l.count w c o h e eo)
+
+pub pushed_count : (l : ChannelList) (c : Channel) (o : ℕ) → l.count < max_channels → (pushed l c o).count ≡ l.count + 1
+unfolding pushed
+pushed_count l c o h = rw (lt-ltb l.count max_channels h)
+
+pub filling_done : (cs : List Channel) (os : List ℕ) (l : ChannelList) → FillingList cs os l → l.count ≡ length cs → length os ≡ length cs → l ≡ holding cs os
+filling_done cs os l w e eo = filling_all cs os l.widths l.heights l.hshifts l.vshifts l.origins l.count w l.count e (eo ∙ sym e) (omega arith)

@@ -1,12 +1,13 @@
 -- Tables of a function of the index: their length, their entries, what is left of one from an index on, and a part of one.
 -- Assumes nothing.
 use mathlib.Core.Path.{◌≡◌, refl, ap, ◌∙◌}
-use mathlib.Core.Bool.{Bool, true, false}
+use mathlib.Core.Bool.{Bool, true, false, ◌&&◌}
 use mathlib.Core.List.{List, [], ◌∷◌, ◌++◌}
 use Prim.Native.Nat.{ℕ, zero, suc, ◌+◌, ◌-◌, ◌<◌, ◌≤◌, min}
 use native.Mathlib.Omega.{arith}
 use native.Mathlib.Numerals.{add-one}
 use lib.ListN.{length, get_or, take, drop}
+use Rattle.std.specs.List.{list_all, range_with_len}
 use Rattle.list.specs.Tables.{table, all}
 
 module _ {ℓ} {A : Type ℓ} (f : ℕ → A) where
@@ -55,3 +56,8 @@ module _ {ℓ} {A : Type ℓ} (f : ℕ → A) (p : A → Bool) (k n : ℕ) (v : 
 
   pub all_next : b ≡ true → all p (table f (k + 1) (n - (k + 1))) ≡ all p (table f k (n - k))
   all_next t = rw (table_rest f k n h, ← ev, ← eb, t)
+
+-- a test of every index, by the library's words
+pub all_ranged {ℓ} : {A : Type ℓ} (f : ℕ → A) (p : A → Bool) (k n : ℕ) → list_all (λ j. p (f j)) (range_with_len k n) ≡ all p (table f k n)
+all_ranged f p k zero = refl
+all_ranged f p k (suc n) = rw (add-one) (ap (λ (b : Bool). p (f k) && b) (all_ranged f p (suc k) n))

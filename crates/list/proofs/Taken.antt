@@ -6,9 +6,8 @@ use lib.Dec.{eqb}
 use borrow.Author.Tests.{eq-eqb, ne_eqb, eqb-true, eqb-false}
 use Rattle.list.specs.declared.ChannelList.{ChannelList}
 use Rattle.list.specs.declared.Step.{Step}
-use Rattle.list.specs.declared.Stepped.{Stepped}
 use Rattle.list.specs.Lists.{channels, next_list}
-use Rattle.list.specs.Questions.{judge_list, judge_step, step_answer, taken, taken_on}
+use Rattle.list.specs.Questions.{judge_list, judge_step, step_answer, Stepped, taken, taken_on}
 
 module _ (s : Step) (l : ChannelList) where
   -- ---- the answer: the list's, then the step's
@@ -47,3 +46,12 @@ module _ (s : Step) (l : ChannelList) where
 
   pub step_taken : judge_list l ≡ 0 → judge_step s (channels l) ≡ 0 → taken s l ≡ record { answer = 0; list = next_list s l }
   step_taken z h = list_passed z ∙ on_taken h
+
+  -- the same by the answer
+  pub taken_refused : (step_answer s l ≡ 0 → ⊥) → taken s l ≡ record { answer = step_answer s l; list = l }
+  unfolding taken
+  taken_refused h = rw (ne_eqb (step_answer s l) 0 h)
+
+  pub taken_next : step_answer s l ≡ 0 → taken s l ≡ record { answer = 0; list = next_list s l }
+  unfolding taken
+  taken_next h = rw (eq-eqb (step_answer s l) 0 h)

@@ -56,9 +56,19 @@ holding cs os =
 abbrev pub packed : List Channel → ChannelList
 packed cs = holding cs (own_positions (length cs))
 
--- an array with entry k set; past its 256 entries there is none to set
-unfoldable pub stored : ℕ → ℕ → List ℕ → List ℕ
-stored k v xs = cond (ltb k max_channels) (set xs k v) xs
+-- the list with a channel and its origin after the last; a full one stays
+unfoldable pub pushed : ChannelList → Channel → ℕ → ChannelList
+pushed l c origin =
+    cond (ltb l.count max_channels)
+    (record {
+      count = l.count + 1;
+      widths = set l.widths l.count c.width;
+      heights = set l.heights l.count c.height;
+      hshifts = set l.hshifts l.count c.hshift;
+      vshifts = set l.vshifts l.count c.vshift;
+      origins = set l.origins l.count origin;
+    })
+    l
 
 -- ---- a step taken by a list
 -- "the side halved, rounded up", and "the rest of the side"

@@ -1,12 +1,12 @@
 -- The questions that document 01 puts to a list (3 to 5) and to a step on it (7 to 11), in its order: the first "no" is the refusal, and 0 says
 -- that there is none. Definitions only.
-use Rattle.std.specs.Prelude.{Bool, true, cond, ◌&&◌, ◌||◌, not, List, [], ◌∷◌, ℕ, ◌+◌, ◌-◌, min, eqb, leb, ltb, length, get_or}
-use Rattle.numbers.specs.Numbers.{max_samples, refused_count, refused_form, refused_samples, refused_range, refused_kinds, refused_place, refused_empty, refused_room}
+use Rattle.std.specs.Prelude.{Bool, true, cond, ◌&&◌, ◌||◌, not, List, [], ◌∷◌, ℕ, ◌+◌, ◌-◌, min, eqb, leb, ltb, length, get_or, Result, Ok, Err}
+use Rattle.numbers.specs.declared.Refusal.{Refusal}
+use Rattle.numbers.specs.Numbers.{number_of, max_samples, refused_count, refused_form, refused_samples, refused_range, refused_kinds, refused_place, refused_empty, refused_room}
 use Rattle.channel.specs.declared.Channel.{Channel}
 use Rattle.channel.specs.Channel.{max_shift, is_meta, is_allowed}
 use Rattle.list.specs.declared.ChannelList.{ChannelList}
 use Rattle.list.specs.declared.Step.{Step}
-use Rattle.list.specs.declared.Stepped.{Stepped}
 use Rattle.list.specs.Tables.{all}
 use Rattle.list.specs.Lists.{max_channels, channels, range, raised, total, next_list}
 
@@ -91,6 +91,16 @@ judge_step s cs =
 -- ---- "A step taken by a list gives the next list": questions 3 to 5 of the list, then 7 to 11; a refusal leaves the list as it came
 unfoldable pub step_answer : Step → ChannelList → ℕ
 step_answer s l = ask (eqb (judge_list l) 0) (judge_list l) (judge_step s (channels l))
+
+-- the answer 0 with the next list, or a refusal's number with the list as it was
+pub record Stepped : Type 0 where
+  pub answer : ℕ
+  pub list : ChannelList
+
+-- the same of what a function gives that takes a step on the list l
+abbrev pub stepped_of : ChannelList → Result ChannelList Refusal → Stepped
+stepped_of l (Ok next) = record { answer = 0; list = next }
+stepped_of l (Err refusal) = record { answer = number_of refusal; list = l }
 
 unfoldable pub taken : Step → ChannelList → Stepped
 taken s l =

@@ -1,12 +1,11 @@
-// The channel list (document 01, "The list and the plan"; the Rust's
-// `check_squeeze_params` and the Squeeze arm of `meta_apply_single_transform`):
-// flat arrays filled up to a count, the questions put to a list and to a step
-// on it, and the list that a step leaves; each channel has its origin (document
-// 02, A.4). Total: any count, any shift, any origin and any unused entry may come
-// in.
+// The channel list (the Rust's `check_squeeze_params` and the Squeeze arm of
+// `meta_apply_single_transform`): flat arrays filled up to a count, the questions put
+// to a list and to a step on it, and the list that a step leaves; each channel has its
+// origin. Total: any count, any shift, any origin and any unused entry may come in.
 #![tactic(auto)]
 
 ghost use Rattle.std.specs.Prelude.{◌≡◌, true, false, cond, ◌&&◌, ◌||◌, not, [], ◌+◌, ◌-◌, ◌<◌, ◌≤◌, min, leb, get_or};
+ghost use Rattle.numbers.specs.Numbers.{answer_of};
 ghost use Rattle.channel.specs.Channel.{meta_shift, is_meta};
 ghost use Rattle.list.specs.Tables.{table, all};
 ghost use Rattle.list.specs.Lists as Lists;
@@ -15,12 +14,11 @@ ghost use Rattle.list.specs.Entries as Entries;
 ghost use Rattle.list.specs.Accepted.{StepAccepted};
 
 use channel::Channel;
-use numbers::{
-    REFUSED_COUNT, REFUSED_EMPTY, REFUSED_FORM, REFUSED_KINDS, REFUSED_PLACE, REFUSED_RANGE,
-    REFUSED_ROOM, REFUSED_SAMPLES,
-};
+use numbers::Refusal;
 
-#[derive(Clone, Copy)]
+// The arrays lie flat, each with its unused entries: a rule of the project, so that a
+// list takes fixed memory and no heap.
+#[derive(Clone, Copy, PartialEq, Eq, Debug)]
 pub struct ChannelList {
     pub count: usize,
     pub widths: [u32; 256],
@@ -31,27 +29,12 @@ pub struct ChannelList {
 }
 
 // A squeeze step (the Rust's `SqueezeParams`).
-#[derive(Clone, Copy)]
+#[derive(Clone, Copy, PartialEq, Eq, Debug)]
 pub struct Step {
     pub horizontal: bool,
     pub inplace: bool,
     pub begin: u16,
     pub number: u16,
-}
-
-// The answer 0 with the next list, or a refusal's number with the list as it
-// was.
-#[derive(Clone, Copy)]
-pub struct Stepped {
-    pub answer: u32,
-    pub list: ChannelList,
-}
-
-// The side in the step's direction.
-fn side(c: Channel, horizontal: bool) -> u32
-    ensures { result ≡ cond horizontal c.width c.height }
-{
-    if horizontal { c.width } else { c.height }
 }
 
 // The channel with another side in the step's direction.
@@ -119,7 +102,7 @@ fn average(c: Channel, horizontal: bool) -> Channel
     requires { Questions.shifts_kept horizontal c ≡ true }
     ensures { result ≡ Lists.average horizontal c }
 {
-    let half = halved(side(c, horizontal));
+    let half = halved(c.side(horizontal));
     raised(with_side(c, horizontal, half), horizontal)
 }
 
@@ -127,7 +110,7 @@ fn residual(c: Channel, horizontal: bool) -> Channel
     requires { Questions.shifts_kept horizontal c ≡ true }
     ensures { result ≡ Lists.residual horizontal c }
 {
-    let side = side(c, horizontal);
+    let side = c.side(horizontal);
     let rest = side - halved(side);
     raised(with_side(c, horizontal, rest), horizontal)
 }
@@ -136,10 +119,7 @@ fn residual(c: Channel, horizontal: bool) -> Channel
 fn is_inside(start: usize, number: usize, k: usize) -> bool
     ensures { result ≡ Entries.is_inside start number k }
 {
-    if k < start {
-        return false;
-    }
-    k - start < number
+    start <= k && k - start < number
 }
 
 // The index of the channel that entry `k` of the list that a step leaves is made
@@ -172,250 +152,6 @@ fn entry(c: Channel, step: Step, residuals: usize, k: usize) -> Channel
     c
 }
 
-// Entry `k` of an array of sides, 0 past it.
-fn side_at(sides: &[u32], k: usize) -> u32
-    ensures { result ≡ get_or sides.now k 0 }
-{
-    if k < sides.len() { sides[k] } else { 0 }
-}
-
-// Entry `k` of an array of shifts or origins, 0 past it.
-fn byte_at(bytes: &[u8], k: usize) -> u8
-    ensures { result ≡ get_or bytes.now k 0 }
-{
-    if k < bytes.len() { bytes[k] } else { 0 }
-}
-
-// Entry `k` of flat arrays, zeros past them.
-pub fn entry_of<'a>(
-    widths: &'a [u32; 256],
-    heights: &'a [u32; 256],
-    hshifts: &'a [u8; 256],
-    vshifts: &'a [u8; 256],
-    k: usize,
-) -> Channel
-    ensures { result ≡ Lists.entry_of widths.now heights.now hshifts.now vshifts.now k }
-{
-    Channel {
-        width: side_at(widths, k),
-        height: side_at(heights, k),
-        hshift: byte_at(hshifts, k),
-        vshift: byte_at(vshifts, k),
-    }
-}
-
-// A channel and its origin as entry `k` of flat arrays; past them nothing is
-// stored.
-pub fn store(
-    c: Channel,
-    origin: u8,
-    k: usize,
-    widths: &mut [u32; 256],
-    heights: &mut [u32; 256],
-    hshifts: &mut [u8; 256],
-    vshifts: &mut [u8; 256],
-    origins: &mut [u8; 256],
-)
-    ensures { (widths.new ≡ Lists.stored k c.width widths.old) × (heights.new ≡ Lists.stored k c.height heights.old) × (hshifts.new ≡ Lists.stored k c.hshift hshifts.old) × (vshifts.new ≡ Lists.stored k c.vshift vshifts.old) × (origins.new ≡ Lists.stored k origin origins.old) }
-{
-    if k < ChannelList::MAX_CHANNELS {
-        let width = c.width;
-        let height = c.height;
-        let hshift = c.hshift;
-        let vshift = c.vshift;
-        widths[k] = width;
-        heights[k] = height;
-        hshifts[k] = hshift;
-        vshifts[k] = vshift;
-        origins[k] = origin;
-    }
-}
-
-// How many channels are meant, of an array's count.
-fn meant(count: usize) -> usize
-    ensures { result ≡ min count Lists.max_channels }
-{
-    if count < ChannelList::MAX_CHANNELS {
-        count
-    } else {
-        ChannelList::MAX_CHANNELS
-    }
-}
-
-// Question 7, of a list with a count.
-fn range_allowed(count: usize, step: Step) -> bool
-    ensures { result ≡ (leb 1 step.number && leb (step.begin + step.number) (min count Lists.max_channels)) }
-{
-    let end = step.begin as usize + step.number as usize;
-    (1 <= step.number) & (end <= meant(count))
-}
-
-// Question 8: of the first and the last of a range.
-fn kinds_alike<'a>(
-    widths: &'a [u32; 256],
-    heights: &'a [u32; 256],
-    hshifts: &'a [u8; 256],
-    vshifts: &'a [u8; 256],
-    step: Step,
-) -> bool
-    requires { 1 ≤ step.number }
-    ensures { result ≡ Questions.alike (is_meta (Lists.entry_of widths.now heights.now hshifts.now vshifts.now step.begin)) (is_meta (Lists.entry_of widths.now heights.now hshifts.now vshifts.now (step.begin + step.number - 1))) }
-{
-    let k = step.begin as usize;
-    let m = k + step.number as usize - 1;
-    let first = entry_of(widths, heights, hshifts, vshifts, k);
-    let last = entry_of(widths, heights, hshifts, vshifts, m);
-    first.is_meta() == last.is_meta()
-}
-
-// Question 9.
-fn place_allowed<'a>(
-    widths: &'a [u32; 256],
-    heights: &'a [u32; 256],
-    hshifts: &'a [u8; 256],
-    vshifts: &'a [u8; 256],
-    step: Step,
-) -> bool
-    ensures { result ≡ (not (is_meta (Lists.entry_of widths.now heights.now hshifts.now vshifts.now step.begin)) || step.inplace) }
-{
-    let k = step.begin as usize;
-    let first = entry_of(widths, heights, hshifts, vshifts, k);
-    !first.is_meta() | step.inplace
-}
-
-// Question 10.
-fn range_has_sides<'a>(
-    widths: &'a [u32; 256],
-    heights: &'a [u32; 256],
-    hshifts: &'a [u8; 256],
-    vshifts: &'a [u8; 256],
-    step: Step,
-) -> bool
-    ensures { result ≡ all Questions.has_sides (table (Lists.entry_of widths.now heights.now hshifts.now vshifts.now) step.begin step.number) }
-{
-    let begin = step.begin as usize;
-    let end = begin + step.number as usize;
-    for k in begin..end {
-        let c = entry_of(widths, heights, hshifts, vshifts, k);
-        if !has_sides(c) {
-            return false;
-        }
-    }
-    true
-}
-
-// Question 11, of the shifts.
-fn range_keeps_shifts<'a>(
-    widths: &'a [u32; 256],
-    heights: &'a [u32; 256],
-    hshifts: &'a [u8; 256],
-    vshifts: &'a [u8; 256],
-    step: Step,
-) -> bool
-    ensures { result ≡ all (Questions.shifts_kept step.horizontal) (table (Lists.entry_of widths.now heights.now hshifts.now vshifts.now) step.begin step.number) }
-{
-    let begin = step.begin as usize;
-    let end = begin + step.number as usize;
-    for k in begin..end {
-        let c = entry_of(widths, heights, hshifts, vshifts, k);
-        if !keeps_shifts(c, step.horizontal) {
-            return false;
-        }
-    }
-    true
-}
-
-// Questions 7 to 11, of a step on the list that lent arrays hold.
-fn judge_step<'a>(
-    count: usize,
-    widths: &'a [u32; 256],
-    heights: &'a [u32; 256],
-    hshifts: &'a [u8; 256],
-    vshifts: &'a [u8; 256],
-    step: Step,
-) -> u32
-    ensures { result ≡ Questions.judge_step step (Lists.channels (Lists.lent count widths.now heights.now hshifts.now vshifts.now [])) }
-{
-    if !range_allowed(count, step) {
-        return REFUSED_RANGE;
-    }
-    if !kinds_alike(widths, heights, hshifts, vshifts, step) {
-        return REFUSED_KINDS;
-    }
-    if !place_allowed(widths, heights, hshifts, vshifts, step) {
-        return REFUSED_PLACE;
-    }
-    if !range_has_sides(widths, heights, hshifts, vshifts, step) {
-        return REFUSED_EMPTY;
-    }
-    let after = meant(count) + step.number as usize;
-    if ChannelList::MAX_CHANNELS < after {
-        return REFUSED_ROOM;
-    }
-    if !range_keeps_shifts(widths, heights, hshifts, vshifts, step) {
-        return REFUSED_ROOM;
-    }
-    0
-}
-
-// Where the residuals start in the list that a step leaves.
-fn residuals_at(count: usize, step: Step) -> usize
-    ensures { result ≡ cond step.inplace (step.begin + step.number) (min count Lists.max_channels) }
-{
-    if step.inplace {
-        step.begin as usize + step.number as usize
-    } else {
-        meant(count)
-    }
-}
-
-// The list that a step leaves of the one that lent arrays hold: each channel has
-// the origin of the one that it is made of.
-fn next_list<'a>(
-    count: usize,
-    widths: &'a [u32; 256],
-    heights: &'a [u32; 256],
-    hshifts: &'a [u8; 256],
-    vshifts: &'a [u8; 256],
-    origins: &'a [u8; 256],
-    step: Step,
-) -> ChannelList
-    requires { StepAccepted step (Lists.channels (Lists.lent count widths.now heights.now hshifts.now vshifts.now origins.now)) }
-    ensures { result ≡ Lists.next_list step (Lists.lent count widths.now heights.now hshifts.now vshifts.now origins.now) }
-{
-    let after = meant(count) + step.number as usize;
-    let residuals = residuals_at(count, step);
-    let mut next_widths = [0u32; 256];
-    let mut next_heights = [0u32; 256];
-    let mut next_hshifts = [0u8; 256];
-    let mut next_vshifts = [0u8; 256];
-    let mut next_origins = [0u8; 256];
-    for k in 0..after {
-        let j = source(step, residuals, k);
-        let from = entry_of(widths, heights, hshifts, vshifts, j);
-        let origin = byte_at(origins, j);
-        let c = entry(from, step, residuals, k);
-        store(
-            c,
-            origin,
-            k,
-            &mut next_widths,
-            &mut next_heights,
-            &mut next_hshifts,
-            &mut next_vshifts,
-            &mut next_origins,
-        );
-    }
-    ChannelList {
-        count: after,
-        widths: next_widths,
-        heights: next_heights,
-        hshifts: next_hshifts,
-        vshifts: next_vshifts,
-        origins: next_origins,
-    }
-}
-
 impl ChannelList {
     pub const MAX_CHANNELS: usize = 256;
 
@@ -438,27 +174,161 @@ impl ChannelList {
     }
 
     // Entry `k` of the arrays, zeros past them.
-    pub fn channel(self, k: usize) -> Channel
-        ensures { result ≡ Lists.channel_at self k }
+    pub fn channel(&self, k: usize) -> Channel
+        ensures { result ≡ Lists.channel_at self.now k }
     {
-        entry_of(&self.widths, &self.heights, &self.hshifts, &self.vshifts, k)
+        if ChannelList::MAX_CHANNELS <= k {
+            return Channel {
+                width: 0,
+                height: 0,
+                hshift: 0,
+                vshift: 0,
+            };
+        }
+        Channel {
+            width: self.widths[k],
+            height: self.heights[k],
+            hshift: self.hshifts[k],
+            vshift: self.vshifts[k],
+        }
+    }
+
+    // The origin of entry `k`, 0 past the array.
+    fn origin(&self, k: usize) -> u8
+        ensures { result ≡ get_or self.now.origins k 0 }
+    {
+        if ChannelList::MAX_CHANNELS <= k {
+            return 0;
+        }
+        self.origins[k]
     }
 
     // How many channels are meant.
-    pub fn len(self) -> usize
-        ensures { result ≡ min self.count Lists.max_channels }
+    pub fn len(&self) -> usize
+        ensures { result ≡ min self.now.count Lists.max_channels }
     {
-        meant(self.count)
+        self.count.min(ChannelList::MAX_CHANNELS)
+    }
+
+    // A channel and its origin after the last; where the list is full nothing changes.
+    pub fn push(&mut self, c: Channel, origin: u8)
+        ensures { self.new ≡ Lists.pushed self.old c origin }
+    {
+        let k = self.count;
+        if k < ChannelList::MAX_CHANNELS {
+            self.widths[k] = c.width;
+            self.heights[k] = c.height;
+            self.hshifts[k] = c.hshift;
+            self.vshifts[k] = c.vshift;
+            self.origins[k] = origin;
+            self.count = k + 1;
+        }
+    }
+
+    // Question 7.
+    fn range_allowed(&self, step: Step) -> bool
+        ensures { result ≡ (leb 1 step.number && leb (step.begin + step.number) (min self.now.count Lists.max_channels)) }
+    {
+        let end = step.begin as usize + step.number as usize;
+        (1 <= step.number) & (end <= self.len())
+    }
+
+    // Question 8: of the first and the last of a range.
+    fn kinds_alike(&self, step: Step) -> bool
+        requires { 1 ≤ step.number }
+        ensures { result ≡ Questions.alike (is_meta (Lists.channel_at self.now step.begin)) (is_meta (Lists.channel_at self.now (step.begin + step.number - 1))) }
+    {
+        let first = step.begin as usize;
+        let last = first + step.number as usize - 1;
+        self.channel(first).is_meta() == self.channel(last).is_meta()
+    }
+
+    // Question 9.
+    fn place_allowed(&self, step: Step) -> bool
+        ensures { result ≡ (not (is_meta (Lists.channel_at self.now step.begin)) || step.inplace) }
+    {
+        !self.channel(step.begin as usize).is_meta() | step.inplace
+    }
+
+    // Question 10.
+    fn range_has_sides(&self, step: Step) -> bool
+        ensures { result ≡ all Questions.has_sides (table (Lists.channel_at self.now) step.begin step.number) }
+    {
+        let begin = step.begin as usize;
+        (begin..begin + step.number as usize).all(|k| has_sides(self.channel(k)))
+    }
+
+    // Question 11, of the shifts.
+    fn range_keeps_shifts(&self, step: Step) -> bool
+        ensures { result ≡ all (Questions.shifts_kept step.horizontal) (table (Lists.channel_at self.now) step.begin step.number) }
+    {
+        let begin = step.begin as usize;
+        (begin..begin + step.number as usize)
+            .all(|k| keeps_shifts(self.channel(k), step.horizontal))
+    }
+
+    // Questions 7 to 11, of a step on the list.
+    fn judge_step(&self, step: Step) -> Result<(), Refusal>
+        ensures { answer_of result ≡ Questions.judge_step step (Lists.channels self.now) }
+    {
+        if !self.range_allowed(step) {
+            return Err(Refusal::Range);
+        }
+        if !self.kinds_alike(step) {
+            return Err(Refusal::Kinds);
+        }
+        if !self.place_allowed(step) {
+            return Err(Refusal::Place);
+        }
+        if !self.range_has_sides(step) {
+            return Err(Refusal::Empty);
+        }
+        if ChannelList::MAX_CHANNELS < self.len() + step.number as usize {
+            return Err(Refusal::Room);
+        }
+        if !self.range_keeps_shifts(step) {
+            return Err(Refusal::Room);
+        }
+        Ok(())
+    }
+
+    // Where the residuals start in the list that a step leaves.
+    fn residuals_at(&self, step: Step) -> usize
+        ensures { result ≡ cond step.inplace (step.begin + step.number) (min self.now.count Lists.max_channels) }
+    {
+        if step.inplace {
+            step.begin as usize + step.number as usize
+        } else {
+            self.len()
+        }
+    }
+
+    // The list that a step leaves: each channel has the origin of the one that it is
+    // made of.
+    fn next_list(&self, step: Step) -> ChannelList
+        requires { StepAccepted step (Lists.channels self.now) }
+        ensures { result ≡ Lists.next_list step self.now }
+    {
+        let residuals = self.residuals_at(step);
+        let after = self.len() + step.number as usize;
+        let mut next = ChannelList::empty();
+        for k in 0..after {
+            let j = source(step, residuals, k);
+            let origin = self.origin(j);
+            let c = entry(self.channel(j), step, residuals, k);
+            next.push(c, origin);
+        }
+        next
     }
 
     // Question 4.
-    fn channels_allowed(self) -> bool
-        ensures { result ≡ Questions.channels_allowed (Lists.channels self) }
+    fn channels_allowed(&self) -> bool
+        ensures { result ≡ Questions.channels_allowed (Lists.channels self.now) }
     {
         let count = self.len();
         let mut plain = false; // the channel before is not meta
         for k in 0..count {
-            let c = entry_of(&self.widths, &self.heights, &self.hshifts, &self.vshifts, k);
+            let c = self.channel(k);
             let meta = c.is_meta();
             if !c.is_allowed() | (plain & meta) {
                 return false;
@@ -469,14 +339,13 @@ impl ChannelList {
     }
 
     // All samples of the list, counted up to one past the limit.
-    pub fn total(self) -> u64
-        ensures { result ≡ Questions.counted_total (Lists.channels self) }
+    pub fn total(&self) -> u64
+        ensures { result ≡ Questions.counted_total (Lists.channels self.now) }
     {
         let count = self.len();
         let mut sum = 0u64;
         for k in 0..count {
-            let c = entry_of(&self.widths, &self.heights, &self.hshifts, &self.vshifts, k);
-            let more = c.samples();
+            let more = self.channel(k).samples();
             if ChannelList::MAX_SAMPLES - sum < more {
                 return ChannelList::MAX_SAMPLES + 1;
             }
@@ -486,78 +355,44 @@ impl ChannelList {
     }
 
     // Questions 3 to 5.
-    pub fn judge(self) -> u32
-        ensures { result ≡ Questions.judge_list self }
+    pub fn judge(&self) -> Result<(), Refusal>
+        ensures { answer_of result ≡ Questions.judge_list self.now }
     {
         let count = self.count;
         if !((1 <= count) & (count <= ChannelList::MAX_CHANNELS)) {
-            return REFUSED_COUNT;
+            return Err(Refusal::Count);
         }
         if !self.channels_allowed() {
-            return REFUSED_FORM;
+            return Err(Refusal::Form);
         }
         if ChannelList::MAX_SAMPLES < self.total() {
-            return REFUSED_SAMPLES;
+            return Err(Refusal::Samples);
         }
-        0
+        Ok(())
     }
 
     // Questions 3 to 5 of the list, then 7 to 11 of the step on it.
-    pub fn check_squeeze_params(self, step: Step) -> u32
-        ensures { result ≡ Questions.step_answer step self }
+    pub fn check_squeeze_params(&self, step: Step) -> Result<(), Refusal>
+        ensures { answer_of result ≡ Questions.step_answer step self.now }
     {
-        let answer = self.judge();
-        if answer != 0 {
-            return answer;
-        }
-        judge_step(
-            self.count,
-            &self.widths,
-            &self.heights,
-            &self.hshifts,
-            &self.vshifts,
-            step,
-        )
+        self.judge()?;
+        self.judge_step(step)
     }
 
-    // The next list, or the refusal's number beside the list as it came, by
-    // questions 7 to 11 alone: for a list that passed questions 3 to 5.
-    pub fn step_on(self, step: Step) -> Stepped
-        ensures { result ≡ Questions.taken_on step self }
+    // The next list, by questions 7 to 11 alone: for a list that passed questions 3
+    // to 5.
+    pub fn step_on(&self, step: Step) -> Result<ChannelList, Refusal>
+        ensures { Questions.stepped_of self.now result ≡ Questions.taken_on step self.now }
     {
-        let answer = judge_step(
-            self.count,
-            &self.widths,
-            &self.heights,
-            &self.hshifts,
-            &self.vshifts,
-            step,
-        );
-        if answer != 0 {
-            return Stepped { answer, list: self };
-        }
-        Stepped {
-            answer: 0,
-            list: next_list(
-                self.count,
-                &self.widths,
-                &self.heights,
-                &self.hshifts,
-                &self.vshifts,
-                &self.origins,
-                step,
-            ),
-        }
+        self.judge_step(step)?;
+        Ok(self.next_list(step))
     }
 
-    // The next list, or the refusal's number beside the list as it came.
-    pub fn step(self, step: Step) -> Stepped
-        ensures { result ≡ Questions.taken step self }
+    // The next list or the refusal; the list, which comes by value, stays the caller's.
+    pub fn step(self, step: Step) -> Result<ChannelList, Refusal>
+        ensures { Questions.stepped_of self result ≡ Questions.taken step self }
     {
-        let answer = self.judge();
-        if answer != 0 {
-            return Stepped { answer, list: self };
-        }
-        self.step_on(step)
+        self.check_squeeze_params(step)?;
+        Ok(self.next_list(step))
     }
 }

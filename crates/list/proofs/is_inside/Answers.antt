@@ -1,12 +1,12 @@
 -- `is_inside` meets its contract. Assumes nothing.
-use borrow.Author.Tests.{lt-leb, le-leb}
-use Rattle.list.specs.Entries.{is_inside}
+use borrow.Author.Tests.{le-leb, lt-leb}
+use Rattle.list.specs.Entries as Entries
 use Rattle.list.proofs.is_inside.Goals as goal
 
-pub returns-then-k-start : goal.returns-then-k-start
-unfolding is_inside
-returns-then-k-start c = let a = c.args in rw (lt-leb a.start a.k c.if-k-start.true)
+pub returns-then-start-k : goal.returns-then-start-k
+unfolding Entries.is_inside
+returns-then-start-k c = rw (le-leb c.args.start c.args.k c.if-start-k.true)
 
-pub returns : goal.returns
-unfolding is_inside
-returns c = let a = c.args in rw (le-leb a.start a.k c.if-k-start.false)
+pub returns-else-start-k : goal.returns-else-start-k
+unfolding Entries.is_inside
+returns-else-start-k c = rw (lt-leb c.args.start c.args.k c.if-start-k.false)

@@ -1,8 +1,7 @@
--- `has_shifts_allowed` meets its contract, by computation. Assumes nothing.
-use mathlib.Core.Path.{refl}
-use Rattle.channel.specs.Channel.{is_meta, shifts_allowed}
+-- `has_shifts_allowed` meets its contract: `is_meta`'s answer, or both shifts. Assumes nothing.
+use Rattle.channel.specs.Channel.{shifts_allowed}
 use Rattle.channel.proofs.Channel.has_shifts_allowed.Goals as goal
 
 pub returns : goal.returns
-unfolding is_meta shifts_allowed
-returns c = refl
+unfolding shifts_allowed
+returns c = rw c.is_meta.ensures

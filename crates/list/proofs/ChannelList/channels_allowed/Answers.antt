@@ -9,41 +9,27 @@ use Rattle.list.proofs.Tables.{table_none}
 use Rattle.list.proofs.Channels.{channels_all}
 use Rattle.list.proofs.MetaFirst.{allowed_after, allowed_end, allowed_stop, allowed_next}
 use Rattle.list.proofs.ChannelList.channels_allowed.Goals as goal
-use Rattle.list.proofs.ChannelList.channels_allowed.Lts as Lts
-use Rattle.list.proofs.ChannelList.channels_allowed.Reads as reads
-use Rattle.list.proofs.ChannelList.channels_allowed.Tie as tie
-
-abbrev After-entry_of-c : Type 0
-After-entry_of-c = Lts.After-entry_of tie.the-claims reads.Pre reads.Post goal.the-invariant-loop-k goal.the-decreases-loop-k
-
-abbrev In-loop-k : Type 0
-In-loop-k = Lts.In-loop tie.the-claims reads.Pre reads.Post goal.the-invariant-loop-k goal.the-decreases-loop-k
 
 pub loop-k-init : goal.loop-k-init
 unfolding channels_allowed
 loop-k-init c = (omega arith, ap (allowed_after false) (channels_all _ c.len-count.result c.len-count.ensures))
 
--- the turn of the loop in which a channel was found
-abbrev turn : After-entry_of-c → In-loop-k
-turn c = c.before.before.before.before.before
-
 pub returns-then-is_allowed-plain : goal.returns-then-is_allowed-plain
 returns-then-is_allowed-plain c =
-    let t = turn c.before.before.before in
-    allowed_stop (channel_at t.args.self) t.loop-k.k _ t.loop-k.plain c.is_allowed.result c.is_meta-meta.result c.entry_of-c.result
-    t.loop-k-test.true c.entry_of-c.ensures c.is_allowed.ensures c.is_meta-meta.ensures c.if-is_allowed-plain.true
-    ∙ t.loop-k.invariant.1
+    allowed_stop (channel_at c.args.self.now) c.loop-k.k _ c.loop-k.plain c.is_allowed.result c.is_meta-meta.result c.channel-c.result
+    c.loop-k-test.true c.channel-c.ensures c.is_allowed.ensures c.is_meta-meta.ensures c.if-is_allowed-plain.true
+    ∙ c.loop-k.invariant.1
 
 pub loop-k-preserved : goal.loop-k-preserved
 loop-k-preserved c =
-    let t = turn c.before.before.before in (
+    let h = c.loop-k-test.true in (
       omega arith,
-      allowed_next (channel_at t.args.self) t.loop-k.k _ t.loop-k.plain c.is_allowed.result c.is_meta-meta.result c.entry_of-c.result
-          t.loop-k-test.true c.entry_of-c.ensures c.is_allowed.ensures c.is_meta-meta.ensures c.if-is_allowed-plain.false
-          ∙ t.loop-k.invariant.1,
+      allowed_next (channel_at c.args.self.now) c.loop-k.k _ c.loop-k.plain c.is_allowed.result c.is_meta-meta.result c.channel-c.result
+          h c.channel-c.ensures c.is_allowed.ensures c.is_meta-meta.ensures c.if-is_allowed-plain.false
+          ∙ c.loop-k.invariant.1,
     )
 
 pub returns : goal.returns
 returns c =
     sym (allowed_end c.loop-k.plain)
-    ∙ rw (table_none (channel_at c.args.self) c.loop-k.k c.len-count.result c.loop-k-test.false) at c.loop-k.invariant.1
+    ∙ rw (table_none (channel_at c.args.self.now) c.loop-k.k c.len-count.result c.loop-k-test.false) at c.loop-k.invariant.1

@@ -2,7 +2,7 @@
 use mathlib.Core.Path.{◌≡◌, refl}
 use mathlib.Core.Bool.{Bool, true, false, beq}
 use Rattle.list.specs.Questions.{alike}
-use Rattle.list.proofs.kinds_alike.Goals as goal
+use Rattle.list.proofs.ChannelList.kinds_alike.Goals as goal
 
 same : (f g : Bool) → beq f g ≡ alike f g
 same true true = refl
@@ -12,4 +12,4 @@ same false false = refl
 
 pub returns : goal.returns
 returns c =
-    rw (← c.entry_of-first.ensures, ← c.entry_of-last.ensures, ← c.is_meta.ensures, ← c.is_meta-2.ensures) (same c.is_meta.result c.is_meta-2.result)
+    rw (← c.channel.ensures, ← c.channel-2.ensures, ← c.is_meta.ensures, ← c.is_meta-2.ensures) (same c.is_meta.result c.is_meta-2.result)

@@ -1,0 +1,5 @@
+-- `range_allowed` meets its contract. Assumes nothing.
+use Rattle.list.proofs.ChannelList.range_allowed.Goals as goal
+
+pub returns : goal.returns
+returns c = rw c.len.ensures
