@@ -13,7 +13,7 @@ use Rattle.channel.specs.declared.Channel.{Channel}
 use Rattle.channel.specs.Channel as C
 use Rattle.list.specs.declared.ChannelList.{ChannelList}
 use Rattle.list.specs.declared.Step.{Step}
-use Rattle.list.specs.declared.Stepped.{Stepped}
+use Rattle.list.specs.Questions.{Stepped}
 use Rattle.list.specs.Tables.{map}
 use Rattle.list.specs.Lists as Lists
 use Rattle.list.specs.Lists.{channels, origins, own_positions, holding, stepped, stepped_origins, next_list}

@@ -12,7 +12,7 @@ use Rattle.numbers.specs.Numbers.{refused_length}
 use Rattle.list.specs.declared.ChannelList.{ChannelList}
 use Rattle.list.specs.Lists.{max_channels, max_steps, channels, origins}
 use Rattle.list.proofs.Channels.{origins_length}
-use Rattle.plan.specs.declared.CoarseCount.{CoarseCount}
+use Rattle.plan.specs.Coarse.{CoarseCount}
 use Rattle.plan.specs.declared.Steps.{Steps}
 use Rattle.plan.specs.Steps as S
 use Rattle.plan.specs.Version.{is_version, rule_of}

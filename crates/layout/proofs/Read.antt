@@ -3,9 +3,9 @@ use mathlib.Core.Path.{◌≡◌, sym, ◌∙◌}
 use mathlib.Core.Bool.{true}
 use mathlib.Core.List.{List}
 use Prim.Native.Nat.{ℕ, ◌≤◌}
-use Rattle.list.specs.declared.Stepped.{Stepped}
+use Rattle.list.specs.Questions.{Stepped}
 use Rattle.list.specs.Lists.{max_channels, max_steps, channels, origins}
-use Rattle.plan.specs.declared.Planned.{Planned}
+use Rattle.plan.specs.Plans.{Planned}
 use Rattle.plan.specs.Steps as S
 use Rattle.plan.specs.Version.{is_version}
 use Rattle.plan.specs.Plans.{judge_plan, rewritten, meant_steps}

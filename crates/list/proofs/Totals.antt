@@ -3,10 +3,11 @@
 use mathlib.Core.Path.{◌≡◌, refl, sym, ap, ◌∙◌}
 use mathlib.Core.Bool.{Bool, true, false, cond}
 use mathlib.Core.List.{List, [], ◌∷◌, ◌++◌}
-use Prim.Native.Nat.{ℕ, ◌+◌, ◌*◌, ◌-◌, ◌<◌, ◌≤◌}
+use Prim.Native.Nat.{ℕ, ◌+◌, ◌*◌, ◌-◌, ◌<◌}
 use native.Mathlib.Omega.{arith}
+use lib.Dec.{leb}
 use native.Mathlib.Nat.{add-mul, mul-add}
-use borrow.Author.Tests.{leb-true, le-leb, lt-leb}
+use borrow.Author.Tests.{leb-true, leb-false, le-leb, lt-leb}
 use Rattle.numbers.specs.Numbers.{max_samples}
 use Rattle.channel.specs.declared.Channel.{Channel}
 use Rattle.channel.specs.Channel.{is_meta, samples}
@@ -26,13 +27,13 @@ total_next f k n t s v h ev es = rw (table_rest f k n h, ← ev, ← es) (omega 
 
 -- ---- the samples counted up to one past the limit, against question 5
 module _ (cs : List Channel) where
-  pub counted_over : (n : ℕ) → n ≡ counted_total cs → max_samples < n → total_allowed cs ≡ false
+  pub counted_leb : (n : ℕ) → n ≡ counted_total cs → leb n max_samples ≡ total_allowed cs
   unfolding counted_total total_allowed
-  counted_over n e h = lt-leb (total cs) max_samples (omega arith)
-
-  pub counted_within : (n : ℕ) → n ≡ counted_total cs → n ≤ max_samples → total_allowed cs ≡ true
-  unfolding counted_total total_allowed
-  counted_within n e h = le-leb (total cs) max_samples (omega arith)
+  counted_leb n e = go (leb n max_samples) refl
+    where
+      go : (b : Bool) → leb n max_samples ≡ b → b ≡ leb (total cs) max_samples
+      go true h = sym (le-leb (total cs) max_samples (omega (arith, leb-true n max_samples h)))
+      go false h = sym (lt-leb (total cs) max_samples (omega (arith, leb-false n max_samples h)))
 
   pub counted_exact : total_allowed cs ≡ true → counted_total cs ≡ total cs
   unfolding counted_total total_allowed

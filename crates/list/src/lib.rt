@@ -263,8 +263,10 @@ impl ChannelList {
         ensures { result ≡ all (Questions.shifts_kept step.horizontal) (table (Lists.channel_at self.now) step.begin step.number) }
     {
         let begin = step.begin as usize;
-        (begin..begin + step.number as usize)
-            .all(|k| keeps_shifts(self.channel(k), step.horizontal))
+        (begin..begin + step.number as usize).all(|k| keeps_shifts(
+            self.channel(k),
+            step.horizontal,
+        ))
     }
 
     // Questions 7 to 11, of a step on the list.
@@ -321,8 +323,15 @@ impl ChannelList {
         next
     }
 
+    // Question 3.
+    pub fn count_allowed(&self) -> bool
+        ensures { result ≡ Questions.count_allowed self.now.count }
+    {
+        (1 <= self.count) & (self.count <= ChannelList::MAX_CHANNELS)
+    }
+
     // Question 4.
-    fn channels_allowed(&self) -> bool
+    pub fn channels_allowed(&self) -> bool
         ensures { result ≡ Questions.channels_allowed (Lists.channels self.now) }
     {
         let count = self.len();
@@ -354,18 +363,24 @@ impl ChannelList {
         sum
     }
 
+    // Question 5.
+    pub fn total_allowed(&self) -> bool
+        ensures { result ≡ Questions.total_allowed (Lists.channels self.now) }
+    {
+        self.total() <= ChannelList::MAX_SAMPLES
+    }
+
     // Questions 3 to 5.
     pub fn judge(&self) -> Result<(), Refusal>
         ensures { answer_of result ≡ Questions.judge_list self.now }
     {
-        let count = self.count;
-        if !((1 <= count) & (count <= ChannelList::MAX_CHANNELS)) {
+        if !self.count_allowed() {
             return Err(Refusal::Count);
         }
         if !self.channels_allowed() {
             return Err(Refusal::Form);
         }
-        if ChannelList::MAX_SAMPLES < self.total() {
+        if !self.total_allowed() {
             return Err(Refusal::Samples);
         }
         Ok(())

@@ -11,7 +11,7 @@ use borrow.Author.Tests.{eq-eqb, ne_eqb, lt-ltb, le-ltb, leb-true, eqb-true}
 use Rattle.channel.specs.declared.Channel.{Channel}
 use Rattle.list.specs.declared.ChannelList.{ChannelList}
 use Rattle.list.specs.declared.Step.{Step}
-use Rattle.list.specs.declared.Stepped.{Stepped}
+use Rattle.list.specs.Questions.{Stepped}
 use Rattle.list.specs.Tables.{all}
 use Rattle.list.specs.Lists.{max_steps, channels}
 use Rattle.numbers.specs.Numbers.{refused_default}
@@ -19,7 +19,7 @@ use Rattle.list.specs.Questions.{ask, count_allowed, channels_allowed, judge_lis
 use Rattle.list.proofs.Tables.{table_length}
 use Rattle.list.proofs.Asking.{passed}
 use Rattle.list.proofs.Acceptance.{count_inside, list_accepted, held_accepted}
-use Rattle.plan.specs.declared.Planned.{Planned}
+use Rattle.plan.specs.Plans.{Planned}
 use Rattle.plan.specs.declared.Steps.{Steps}
 use Rattle.plan.specs.Steps as S
 use Rattle.plan.specs.Version.{is_version, rule_of}

@@ -3,14 +3,15 @@
 use mathlib.Core.Bool.{true, false}
 use mathlib.Core.Path.{◌≡◌, refl, sym, ap, ◌∙◌}
 use mathlib.Core.List.{List, [], ◌∷◌, ◌++◌}
-use Prim.Native.Nat.{ℕ, ◌+◌, ◌≤◌}
+use Prim.Native.Nat.{ℕ, ◌+◌, ◌<◌, ◌≤◌}
 use native.Mathlib.Omega.{arith}
 use lib.Dec.{ltb}
+use borrow.Author.Tests.{lt-ltb}
 use lib.ListN.{length, length-append}
 use Rattle.list.specs.declared.Step.{Step}
 use Rattle.list.specs.Lists.{max_steps}
 use Rattle.plan.specs.declared.Steps.{Steps}
-use Rattle.plan.specs.Adding.{pushed, appended}
+use Rattle.plan.specs.Adding.{pushed, added, appended}
 use Rattle.plan.specs.Default.{when, step, lowered, rounds}
 use Rattle.plan.proofs.Turns.{goes_on, turns_over, rounds_done, rounds_turn}
 
@@ -23,6 +24,10 @@ appended_append : (s : Steps) (xs ys : List Step) → appended s (xs ++ ys) ≡ 
 unfolding appended
 appended_append s [] ys = refl
 appended_append s (x ∷ xs) ys = appended_append (pushed s x) xs ys
+
+pub added_room : (s : Steps) (x : Step) → s.count < max_steps → added s x ≡ pushed s x
+unfolding added
+added_room s x h = rw (lt-ltb s.count max_steps h)
 
 pub counted : (s t : Steps) (xs : List Step) → t ≡ appended s xs → t.count ≡ s.count + length xs
 counted s t xs e = ap (λ (x : Steps). x.count) e ∙ appended_count s xs

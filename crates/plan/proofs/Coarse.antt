@@ -13,7 +13,7 @@ use Rattle.list.specs.Tables.{all}
 use Rattle.list.specs.Questions.{no_meta, meta_first, channel_of}
 use Rattle.list.specs.declared.ChannelList.{ChannelList}
 use Rattle.list.specs.Lists.{channels}
-use Rattle.plan.specs.declared.CoarseCount.{CoarseCount}
+use Rattle.plan.specs.Coarse.{CoarseCount}
 use Rattle.plan.specs.Version.{is_version, rule_of}
 use Rattle.plan.specs.Default as Default
 use Rattle.plan.specs.Default.{leading, meta_count}

@@ -8,14 +8,14 @@ use native.Mathlib.Omega.{arith}
 use lib.ListN.{length}
 use Rattle.list.specs.declared.ChannelList.{ChannelList}
 use Rattle.list.specs.declared.Step.{Step}
-use Rattle.list.specs.declared.Stepped.{Stepped}
+use Rattle.list.specs.Questions.{Stepped}
 use Rattle.list.specs.Lists as Lists
 use Rattle.list.specs.Lists.{max_channels, max_steps, channels, origins, total}
 use Rattle.list.specs.Questions.{counted_total, judge_list}
 use Rattle.list.proofs.Acceptance.{count_inside, list_accepted}
 use Rattle.list.proofs.Packed.{channels_held, origins_held}
 use Rattle.list.proofs.Totals.{counted_exact}
-use Rattle.plan.specs.declared.Planned.{Planned}
+use Rattle.plan.specs.Plans.{Planned}
 use Rattle.plan.specs.declared.Steps.{Steps}
 use Rattle.plan.specs.Steps.{steps}
 use Rattle.plan.specs.Version.{is_version}

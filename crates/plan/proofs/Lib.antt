@@ -3,11 +3,10 @@ pub mod Length
 pub mod Appended
 pub mod Packed
 pub mod Counts
-pub mod Passed
+pub mod Leading
 pub mod Coarse
 pub mod Parts
 pub mod Flags
-pub mod Form
 pub mod Runs
 pub mod Reached
 pub mod Answers

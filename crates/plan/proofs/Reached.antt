@@ -9,7 +9,7 @@ use lib.ListN.{length}
 use Rattle.channel.specs.declared.Channel.{Channel}
 use Rattle.list.specs.declared.ChannelList.{ChannelList}
 use Rattle.list.specs.declared.Step.{Step}
-use Rattle.list.specs.declared.Stepped.{Stepped}
+use Rattle.list.specs.Questions.{Stepped}
 use Rattle.list.specs.Tables.{table}
 use Rattle.list.specs.Lists as Lists
 use Rattle.list.specs.Lists.{max_steps, channels, origins, holding, packed, stepped_origins}

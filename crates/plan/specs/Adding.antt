@@ -1,6 +1,7 @@
 -- Steps added to flat arrays one by one, for the contracts of the functions that make the default plan. Definitions only.
-use Rattle.std.specs.Prelude.{List, [], ◌∷◌, ◌+◌, set}
+use Rattle.std.specs.Prelude.{cond, List, [], ◌∷◌, ◌+◌, ltb, set}
 use Rattle.list.specs.declared.Step.{Step}
+use Rattle.list.specs.Lists.{max_steps}
 use Rattle.plan.specs.declared.Steps.{Steps}
 use Rattle.plan.specs.Steps.{flags_of}
 
@@ -12,6 +13,10 @@ pushed s step =
       begins = set s.begins s.count step.begin;
       numbers = set s.numbers s.count step.number;
     }
+
+-- the same where any count may come: a plan without room stays
+unfoldable pub added : Steps → Step → Steps
+added s step = cond (ltb s.count max_steps) (pushed s step) s
 
 unfoldable pub appended : Steps → List Step → Steps
 appended s [] = s

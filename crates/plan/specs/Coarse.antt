@@ -1,13 +1,13 @@
 -- The coarse count (document 01, "The list and the plan"; document 02, A.2 and A.11), as a function of the side at which plans stop, and the laws of it
 -- that clerks rely on, over any such side. Definitions and statements only; proofs/Coarse.antt proves them.
-use Rattle.std.specs.Prelude.{◌≡◌, Bool, true, false, cond, ◌&&◌, ◌||◌, List, ℕ, ◌+◌, ◌<◌, ◌≤◌, leb, length, drop}
+use Rattle.std.specs.Prelude.{◌≡◌, Bool, true, false, cond, ◌&&◌, ◌||◌, List, ℕ, ◌+◌, ◌<◌, ◌≤◌, leb, length, drop, Result, Ok, Err}
 use Rattle.channel.specs.declared.Channel.{Channel}
 use Rattle.channel.specs.Channel.{is_meta}
-use Rattle.numbers.specs.Numbers.{refused_form}
+use Rattle.numbers.specs.declared.Refusal.{Refusal}
+use Rattle.numbers.specs.Numbers.{number_of, refused_form}
 use Rattle.list.specs.declared.ChannelList.{ChannelList}
 use Rattle.list.specs.Lists.{channels}
 use Rattle.list.specs.Questions.{no_meta, meta_first, channel_of}
-use Rattle.plan.specs.declared.CoarseCount.{CoarseCount}
 use Rattle.plan.specs.Version.{is_version, rule_of}
 use Rattle.plan.specs.Default.{leading, meta_count}
 
@@ -22,6 +22,16 @@ is_coarse stop c = is_meta c || is_small stop c
 -- "the number of leading channels of the rewritten list"; "the count still ends at the first other channel with a side above 8"
 unfoldable pub coarse_count : ℕ → List Channel → ℕ
 coarse_count stop cs = leading (is_coarse stop) cs
+
+-- the answer 0 with a coarse count, or a refusal's number and 0
+pub record CoarseCount : Type 0 where
+  pub answer : ℕ
+  pub count : ℕ
+
+-- the same of what the function gives that counts
+abbrev pub counted_of : Result ℕ Refusal → CoarseCount
+counted_of (Ok n) = record { answer = 0; count = n }
+counted_of (Err refusal) = record { answer = number_of refusal; count = 0 }
 
 -- A.11: "The coarse count takes the version's side"; "a version other than 1 or 2" is refused with 4, and nothing else is
 unfoldable pub coarse_of : ℕ → ChannelList → CoarseCount

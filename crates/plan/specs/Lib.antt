@@ -4,7 +4,6 @@ pub mod Default
 pub mod Plans
 pub mod Adding
 pub mod Coarse
-pub mod Counted
 pub mod Standard
 pub mod StandardDefault
 pub mod Longest

@@ -1,16 +1,15 @@
 -- A plan on a list: the questions 3 to 11 in document 01's order, for a plan version (document 02, A.11), and the list that the plan leaves,
 -- with its origins (A.4). Definitions only.
-use Rattle.std.specs.Prelude.{Bool, true, cond, ◌&&◌, List, [], ◌∷◌, ℕ, eqb, leb, ltb, length}
-use Rattle.numbers.specs.Numbers.{refused_count, refused_form, refused_samples, refused_default}
+use Rattle.std.specs.Prelude.{Bool, true, cond, ◌&&◌, List, [], ◌∷◌, ℕ, eqb, leb, ltb, length, Result, Ok, Err}
+use Rattle.numbers.specs.declared.Refusal.{Refusal}
+use Rattle.numbers.specs.Numbers.{number_of, refused_count, refused_form, refused_samples, refused_default}
 use Rattle.channel.specs.declared.Channel.{Channel}
 use Rattle.list.specs.declared.ChannelList.{ChannelList}
 use Rattle.list.specs.declared.Step.{Step}
-use Rattle.list.specs.declared.Stepped.{Stepped}
 use Rattle.list.specs.Lists.{max_steps, channels, own_positions, holding, stepped, stepped_origins}
 use Rattle.list.specs.Tables.{all}
-use Rattle.list.specs.Questions.{ask, count_allowed, channels_allowed, total_allowed, judge_step}
+use Rattle.list.specs.Questions.{Stepped, ask, count_allowed, channels_allowed, total_allowed, judge_step}
 use Rattle.plan.specs.declared.Steps.{Steps}
-use Rattle.plan.specs.declared.Planned.{Planned}
 use Rattle.plan.specs.Steps as S
 use Rattle.plan.specs.Steps.{steps, all_flags, flags_allowed}
 use Rattle.plan.specs.Version.{is_version, rule_of}
@@ -77,6 +76,16 @@ unfoldable pub rewritten : ℕ → ChannelList → Steps → Stepped
 rewritten version l s = outcome (judge_plan version l s) l (list_left (meant version (steps s) (channels l)) (channels l))
 
 -- ---- the steps that are meant
+-- the answer 0 with a plan, or a refusal's number without a step
+pub record Planned : Type 0 where
+  pub answer : ℕ
+  pub steps : Steps
+
+-- the same of what a function gives that finds them
+abbrev pub planned_of : Result Steps Refusal → Planned
+planned_of (Ok s) = record { answer = 0; steps = s }
+planned_of (Err refusal) = record { answer = number_of refusal; steps = S.packed [] }
+
 -- the answer 0 with steps, or a refusal's number without a step
 abbrev pub offer : ℕ → Steps → Planned
 offer answer s = cond (eqb answer 0) (record { answer = 0; steps = s }) (record { answer = answer; steps = S.packed [] })

@@ -1,27 +1,28 @@
-// Plans (document 01, "The list and the plan"; the Rust's `default_squeeze` and
-// `meta_apply_transforms`): the steps in flat arrays, the default plan of either
-// version (document 02, A.11), the run of a plan over a list, and the coarse
-// count. Total.
+// Plans (the Rust's `default_squeeze` and `meta_apply_transforms`): the steps in flat
+// arrays, what a plan version, a list and its steps come to, the default plan of
+// either version, the run of a plan over a list, and the coarse count. Total.
 #![tactic(auto)]
 
-ghost use Rattle.std.specs.Prelude.{◌≡◌, true, [], ◌+◌, ◌<◌, ◌≤◌, length};
+ghost use Rattle.std.specs.Prelude.{◌≡◌, true, [], ◌+◌, ◌<◌, ◌≤◌, length, IfOk};
+ghost use Rattle.numbers.specs.Numbers.{answer_of};
 ghost use Rattle.channel.specs.Channel.{sides_fit};
 ghost use Rattle.list.specs.Tables.{all};
 ghost use Rattle.list.specs.Lists.{max_channels, max_steps, channels, packed};
-ghost use Rattle.list.specs.Questions.{judge_list};
+ghost use Rattle.list.specs.Questions.{judge_list, stepped_of};
 ghost use Rattle.plan.specs.Steps as Spec;
-ghost use Rattle.plan.specs.Adding.{pushed, appended};
+ghost use Rattle.plan.specs.Adding.{pushed, added, appended};
 ghost use Rattle.plan.specs.Version as Version;
 ghost use Rattle.plan.specs.Default as Default;
-ghost use Rattle.plan.specs.Coarse.{is_coarse, coarse_of};
-ghost use Rattle.plan.specs.Counted.{is_counted};
+ghost use Rattle.plan.specs.Coarse.{is_coarse, coarse_of, counted_of};
 ghost use Rattle.plan.specs.Plans as Plans;
 
 use channel::Channel;
-use list::{ChannelList, Step, Stepped, entry_of, halved, store};
-use numbers::{REFUSED_COUNT, REFUSED_DEFAULT, REFUSED_FORM};
+use list::{ChannelList, Step, halved};
+use numbers::Refusal;
 
-#[derive(Clone, Copy)]
+// The arrays lie flat, as those of the list: fixed memory and no heap. A step's flags
+// keep their eight bits, so that a plan can carry what question 4 refuses.
+#[derive(Clone, Copy, PartialEq, Eq, Debug)]
 pub struct Steps {
     pub count: usize,
     pub flags: [u8; 64],
@@ -29,10 +30,12 @@ pub struct Steps {
     pub numbers: [u16; 64],
 }
 
-// The answer 0 with a plan, or a refusal's number without a step.
-#[derive(Clone, Copy)]
-pub struct Planned {
-    pub answer: u32,
+// What a record holds: a plan version, a channel list and the steps on it. The version
+// is a number, since any may come: a type of two values would ask more of callers.
+#[derive(Clone, Copy, PartialEq, Eq, Debug)]
+pub struct Form {
+    pub version: u32,
+    pub list: ChannelList,
     pub steps: Steps,
 }
 
@@ -45,18 +48,14 @@ struct DefaultRule {
     chroma: bool,
 }
 
-// The answer 0 with a coarse count, or a refusal's number and 0.
+// The channels that are not meta: where they begin, how many they are, and the sides
+// of the first.
 #[derive(Clone, Copy)]
-pub struct CoarseCount {
-    pub answer: u32,
-    pub count: usize,
-}
-
-// The channels that are counted from the front of a list.
-#[derive(Clone, Copy)]
-enum Counted {
-    Meta,
-    Coarse,
+struct Others {
+    begin: u16,
+    number: u16,
+    width: u32,
+    height: u32,
 }
 
 // "flags 1 (bit 0 horizontal, bit 1 in place)".
@@ -87,8 +86,8 @@ impl Steps {
     }
 
     // Entry `k`; zeros past the arrays.
-    pub fn step(self, k: usize) -> Step
-        ensures { result ≡ Spec.step_at self k }
+    pub fn step(&self, k: usize) -> Step
+        ensures { result ≡ Spec.step_at self.now k }
     {
         if ChannelList::MAX_STEPS <= k {
             return Step {
@@ -99,35 +98,42 @@ impl Steps {
             };
         }
         let flags = self.flags[k];
-        let begin = self.begins[k];
-        let number = self.numbers[k];
         Step {
             horizontal: flags % 2 == 1,
             inplace: flags / 2 % 2 == 1,
-            begin,
-            number,
+            begin: self.begins[k],
+            number: self.numbers[k],
         }
     }
 
-    // `step` after the last one.
-    fn push(self, step: Step) -> Self
-        requires { self.count < max_steps }
-        ensures { result ≡ pushed self step }
+    // `step` after the last one; where there is no room nothing changes.
+    pub fn push(&mut self, step: Step)
+        ensures { self.new ≡ added self.old step }
     {
         let k = self.count;
-        let mut next = self;
-        next.flags[k] = flags_of(step);
-        next.begins[k] = step.begin;
-        next.numbers[k] = step.number;
-        next.count = k + 1;
-        next
+        if k < ChannelList::MAX_STEPS {
+            self.flags[k] = flags_of(step);
+            self.begins[k] = step.begin;
+            self.numbers[k] = step.number;
+            self.count = k + 1;
+        }
     }
 
-    fn push_if(self, test: bool, step: Step) -> Self
-        requires { self.count + length (Default.when test step) ≤ max_steps }
-        ensures { result ≡ appended self (Default.when test step) }
+    fn push_if(&mut self, test: bool, step: Step)
+        requires { self.old.count + length (Default.when test step) ≤ max_steps }
+        ensures { self.new ≡ appended self.old (Default.when test step) }
     {
-        if test { self.push(step) } else { self }
+        if test {
+            self.push(step);
+        }
+    }
+
+    // Question 4, of the steps' flags.
+    fn flags_allowed(&self) -> bool
+        requires { self.now.count ≤ max_steps }
+        ensures { result ≡ all Spec.flags_allowed (Spec.all_flags self.now) }
+    {
+        (0..self.count).all(|k| self.flags[k] <= Steps::ALL_FLAGS)
     }
 }
 
@@ -155,6 +161,20 @@ impl DefaultRule {
     }
 }
 
+impl Others {
+    // A step in place on all of them.
+    fn step(self, horizontal: bool) -> Step
+        ensures { result ≡ Default.step horizontal true self.begin self.number }
+    {
+        Step {
+            horizontal,
+            inplace: true,
+            begin: self.begin,
+            number: self.number,
+        }
+    }
+}
+
 // Question 4, of a plan version.
 pub fn is_version(version: u32) -> bool
     ensures { result ≡ Version.is_version version }
@@ -168,78 +188,59 @@ fn lowered(stop: u32, side: u32) -> u32
     if stop < side { halved(side) } else { side }
 }
 
-// The turns of the default plan after `plan`: in-place steps on all `n`
-// channels from `m` on while a side of the first is above `stop`.
-fn rounds(plan: Steps, stop: u32, m: u16, n: u16, w: u32, h: u32) -> Steps
-    requires { (1 ≤ stop) × (plan.count + length (Default.rounds (w + h) stop m n w h) ≤ max_steps) }
-    ensures { result ≡ appended plan (Default.rounds (w + h) stop m n w h) }
+// The turns of the default plan after the steps: in-place steps on all other channels
+// while a side of the first is above `stop`.
+fn rounds(steps: &mut Steps, stop: u32, others: Others)
+    requires { (1 ≤ stop) × (steps.old.count + length (Default.rounds (others.width + others.height) stop others.begin others.number others.width others.height) ≤ max_steps) }
+    ensures { steps.new ≡ appended steps.old (Default.rounds (others.width + others.height) stop others.begin others.number others.width others.height) }
 {
-    let horizontal = Step {
-        horizontal: true,
-        inplace: true,
-        begin: m,
-        number: n,
-    };
-    let vertical = Step {
-        horizontal: false,
-        inplace: true,
-        begin: m,
-        number: n,
-    };
-    let mut steps = plan;
-    let mut width = w;
-    let mut height = h;
+    let mut width = others.width;
+    let mut height = others.height;
     while (stop < width) | (stop < height) {
-        steps = steps
-            .push_if(stop < width, horizontal)
-            .push_if(stop < height, vertical);
+        steps.push_if(stop < width, others.step(true));
+        steps.push_if(stop < height, others.step(false));
         width = lowered(stop, width);
         height = lowered(stop, height);
     }
-    steps
 }
 
-// The in-place steps of the default plan after `plan`: vertical first on tall
+// The in-place steps of the default plan after the steps: vertical first on tall
 // pictures, then the turns.
-fn all_channels(plan: Steps, stop: u32, m: u16, n: u16, w: u32, h: u32) -> Steps
-    requires { (1 ≤ stop) × (plan.count + length (Default.all_channels stop m n w h) ≤ max_steps) }
-    ensures { result ≡ appended plan (Default.all_channels stop m n w h) }
+fn all_channels(steps: &mut Steps, stop: u32, others: Others)
+    requires { (1 ≤ stop) × (steps.old.count + length (Default.all_channels stop others.begin others.number others.width others.height) ≤ max_steps) }
+    ensures { steps.new ≡ appended steps.old (Default.all_channels stop others.begin others.number others.width others.height) }
 {
+    let w = others.width;
+    let h = others.height;
     if (w <= h) & (stop < h) {
-        let vertical = Step {
-            horizontal: false,
-            inplace: true,
-            begin: m,
-            number: n,
-        };
-        return rounds(plan.push(vertical), stop, m, n, w, halved(h));
+        steps.push(others.step(false));
+        let mut lower = others;
+        lower.height = halved(h);
+        rounds(steps, stop, lower);
+    } else {
+        rounds(steps, stop, others);
     }
-    rounds(plan, stop, m, n, w, h)
 }
 
-// The chroma steps of a default plan that has such steps, after `plan`: on the
-// second and third of `n` channels from `m` on, where the second is `w` by `h` as
-// the first is.
-fn chroma(plan: Steps, wanted: bool, m: u16, n: u16, w: u32, h: u32, second: Channel) -> Steps
-    requires { (plan.count + 2 ≤ max_steps) × (m < max_channels) }
-    ensures { result ≡ appended plan (Default.chroma wanted m n w h second) }
+// The chroma steps of a default plan that has such steps, after the steps: on the
+// second and third of the other channels, where the second has the sides of the first.
+fn chroma(steps: &mut Steps, wanted: bool, others: Others, second: Channel)
+    requires { (steps.old.count + 2 ≤ max_steps) × (others.begin < max_channels) }
+    ensures { steps.new ≡ appended steps.old (Default.chroma wanted others.begin others.number others.width others.height second) }
 {
-    let begin = m + 1;
+    let w = others.width;
+    let h = others.height;
     let horizontal = Step {
         horizontal: true,
         inplace: false,
-        begin,
+        begin: others.begin + 1,
         number: 2,
     };
-    let vertical = Step {
-        horizontal: false,
-        inplace: false,
-        begin,
-        number: 2,
-    };
-    let alike = wanted & (2 < n) & (second.width == w) & (second.height == h);
-    plan.push_if(alike & (1 < w), horizontal)
-        .push_if(alike & (1 < h), vertical)
+    let mut vertical = horizontal;
+    vertical.horizontal = false;
+    let alike = wanted & (2 < others.number) & (second.width == w) & (second.height == h);
+    steps.push_if(alike & (1 < w), horizontal);
+    steps.push_if(alike & (1 < h), vertical);
 }
 
 // Whether a channel is meta or has no side above `stop` (the Rust's
@@ -250,201 +251,129 @@ fn is_coarse(channel: Channel, stop: u32) -> bool
     channel.is_meta() | ((channel.width <= stop) & (channel.height <= stop))
 }
 
-fn is_counted(channel: Channel, which: Counted, stop: u32) -> bool
-    ensures { result ≡ is_counted which stop channel }
+// The leading meta channels.
+fn meta_count(list: &ChannelList) -> usize
+    ensures { result ≡ Default.meta_count (channels list.now) }
 {
-    match which {
-        Counted::Meta => channel.is_meta(),
-        Counted::Coarse => is_coarse(channel, stop),
-    }
+    (0..list.len())
+        .take_while(|&k| list.channel(k).is_meta())
+        .count()
 }
 
-// How many channels stand before the first that is not counted.
-fn leading(list: ChannelList, which: Counted, stop: u32) -> usize
-    ensures { result ≡ Default.leading (is_counted which stop) (channels list) }
-{
-    let count = list.count;
-    for k in 0..ChannelList::MAX_CHANNELS {
-        let c = entry_of(&list.widths, &list.heights, &list.hshifts, &list.vshifts, k);
-        if (count <= k) | !is_counted(c, which, stop) {
-            return k;
-        }
-    }
-    ChannelList::MAX_CHANNELS
-}
-
-// m, the leading meta channels.
-fn meta_count(list: ChannelList) -> usize
-    ensures { result ≡ Default.meta_count (channels list) }
-{
-    leading(list, Counted::Meta, 0)
-}
-
-// The coarse count of a rewritten list under a plan version, which is all that
-// is judged.
-pub fn coarse_count(version: u32, list: ChannelList) -> CoarseCount
-    ensures { result ≡ coarse_of version list }
+// The leading coarse channels of a rewritten list under a plan version, which is all
+// that is judged.
+pub fn coarse_count(version: u32, list: &ChannelList) -> Result<usize, Refusal>
+    ensures { counted_of result ≡ coarse_of version list.now }
 {
     if !is_version(version) {
-        return CoarseCount {
-            answer: REFUSED_FORM,
-            count: 0,
-        };
+        return Err(Refusal::Form);
     }
-    CoarseCount {
-        answer: 0,
-        count: leading(list, Counted::Coarse, DefaultRule::of(version).stop),
-    }
+    let stop = DefaultRule::of(version).stop;
+    let count = (0..list.len())
+        .take_while(|&k| is_coarse(list.channel(k), stop))
+        .count();
+    Ok(count)
 }
 
 // The default plan of a list with a channel that is not meta and no side above
 // the limit.
-fn default_steps(rule: DefaultRule, list: ChannelList) -> Steps
-    requires { (1 ≤ rule.stop) × (list.count ≤ max_channels) × (Default.meta_count (channels list) < list.count) × (all sides_fit (channels list) ≡ true) }
-    ensures value { result ≡ Spec.packed (Default.default_steps rule (channels list)) }
+fn default_steps(rule: DefaultRule, list: &ChannelList) -> Steps
+    requires { (1 ≤ rule.stop) × (list.now.count ≤ max_channels) × (Default.meta_count (channels list.now) < list.now.count) × (all sides_fit (channels list.now) ≡ true) }
+    ensures value { result ≡ Spec.packed (Default.default_steps rule (channels list.now)) }
     ensures room { result.count ≤ max_steps }
 {
     let k = meta_count(list);
-    let first = entry_of(&list.widths, &list.heights, &list.hshifts, &list.vshifts, k);
-    let j = k + 1;
-    let second = entry_of(&list.widths, &list.heights, &list.hshifts, &list.vshifts, j);
-    let m = k as u16;
-    let n = (list.count - k) as u16;
-    let w = first.width;
-    let h = first.height;
-    let steps = chroma(Steps::empty(), rule.chroma, m, n, w, h, second);
-    all_channels(steps, rule.stop, m, n, w, h)
-}
-
-// Question 4, of the steps' flags.
-fn flags_allowed(steps: Steps) -> bool
-    requires { steps.count ≤ max_steps }
-    ensures { result ≡ all Spec.flags_allowed (Spec.all_flags steps) }
-{
-    let count = steps.count;
-    for k in 0..count {
-        if Steps::ALL_FLAGS < steps.flags[k] {
-            return false;
-        }
-    }
-    true
-}
-
-// Questions 3 to 5, of a version, a list and a plan.
-fn judge_form(version: u32, list: ChannelList, steps: Steps) -> u32
-    ensures { result ≡ Plans.judge_form version list steps }
-{
-    let answer = list.judge();
-    if (answer == REFUSED_COUNT) | !(steps.count <= ChannelList::MAX_STEPS) {
-        return REFUSED_COUNT;
-    }
-    if (answer == REFUSED_FORM) | !(flags_allowed(steps) & is_version(version)) {
-        return REFUSED_FORM;
-    }
-    answer
-}
-
-// The steps that a list and a plan mean by questions 3 to 6: "An empty list of
-// steps means the default plan", the version's.
-pub fn meant_steps(version: u32, list: ChannelList, steps: Steps) -> Planned
-    ensures value { result ≡ Plans.meant_steps version list steps }
-    ensures room { result.steps.count ≤ max_steps }
-{
-    let answer = judge_form(version, list, steps);
-    if answer != 0 {
-        return Planned {
-            answer,
-            steps: Steps::empty(),
-        };
-    }
-    if steps.count != 0 {
-        return Planned { answer: 0, steps };
-    }
-    if list.count <= meta_count(list) {
-        return Planned {
-            answer: REFUSED_DEFAULT,
-            steps: Steps::empty(),
-        };
-    }
-    Planned {
-        answer: 0,
-        steps: default_steps(DefaultRule::of(version), list),
-    }
-}
-
-// The default plan of a list, by questions 3 to 6.
-pub fn default_squeeze(version: u32, list: ChannelList) -> Planned
-    ensures value { result ≡ Plans.planned version list }
-    ensures room { result.steps.count ≤ max_steps }
-{
-    meant_steps(version, list, Steps::empty())
+    let first = list.channel(k);
+    let others = Others {
+        begin: k as u16,
+        number: (list.count - k) as u16,
+        width: first.width,
+        height: first.height,
+    };
+    let mut steps = Steps::empty();
+    chroma(&mut steps, rule.chroma, others, list.channel(k + 1));
+    all_channels(&mut steps, rule.stop, others);
+    steps
 }
 
 // The list with its unused entries 0, each channel's own position as its origin.
-fn tidied(list: ChannelList) -> ChannelList
-    requires { list.count ≤ max_channels }
-    ensures { result ≡ packed (channels list) }
+fn tidied(list: &ChannelList) -> ChannelList
+    requires { list.now.count ≤ max_channels }
+    ensures { result ≡ packed (channels list.now) }
 {
-    let count = list.count;
-    let mut widths = [0u32; 256];
-    let mut heights = [0u32; 256];
-    let mut hshifts = [0u8; 256];
-    let mut vshifts = [0u8; 256];
-    let mut origins = [0u8; 256];
-    for k in 0..count {
-        let c = entry_of(&list.widths, &list.heights, &list.hshifts, &list.vshifts, k);
-        store(
-            c,
-            k as u8,
-            k,
-            &mut widths,
-            &mut heights,
-            &mut hshifts,
-            &mut vshifts,
-            &mut origins,
-        );
+    let mut tidy = ChannelList::empty();
+    for k in 0..list.count {
+        tidy.push(list.channel(k), k as u8);
     }
-    ChannelList {
-        count,
-        widths,
-        heights,
-        hshifts,
-        vshifts,
-        origins,
-    }
+    tidy
 }
 
 // Questions 7 to 11 of each step on a list that passes questions 3 to 5, and
 // the list that the steps leave.
-fn run(list: ChannelList, steps: Steps) -> Stepped
-    requires { (judge_list list ≡ 0) × (steps.count ≤ max_steps) }
-    ensures { result ≡ Plans.ran (Spec.steps steps) list }
+fn run(list: &ChannelList, steps: &Steps) -> Result<ChannelList, Refusal>
+    requires { (judge_list list.now ≡ 0) × (steps.now.count ≤ max_steps) }
+    ensures { stepped_of list.now result ≡ Plans.ran (Spec.steps steps.now) list.now }
 {
-    let count = steps.count;
     let mut now = tidied(list);
-    for k in 0..count {
-        let stepped = now.step_on(steps.step(k));
-        let answer = stepped.answer;
-        if answer != 0 {
-            return Stepped { answer, list };
-        }
-        now = stepped.list;
+    for k in 0..steps.count {
+        now = now.step_on(steps.step(k))?;
     }
-    Stepped {
-        answer: 0,
-        list: now,
+    Ok(now)
+}
+
+impl Form {
+    // Questions 3 to 5.
+    fn judge(&self) -> Result<(), Refusal>
+        ensures { answer_of result ≡ Plans.judge_form self.now.version self.now.list self.now.steps }
+    {
+        if !(self.list.count_allowed() & (self.steps.count <= ChannelList::MAX_STEPS)) {
+            return Err(Refusal::Count);
+        }
+        if !(self.list.channels_allowed()
+            & (self.steps.flags_allowed() & is_version(self.version)))
+        {
+            return Err(Refusal::Form);
+        }
+        if !self.list.total_allowed() {
+            return Err(Refusal::Samples);
+        }
+        Ok(())
+    }
+
+    // The steps that are meant, by questions 3 to 6: no steps mean the default plan,
+    // the version's.
+    pub fn meant_steps(&self) -> Result<Steps, Refusal>
+        ensures value { Plans.planned_of result ≡ Plans.meant_steps self.now.version self.now.list self.now.steps }
+        ensures room { IfOk result (λ steps. steps.count ≤ max_steps) }
+    {
+        self.judge()?;
+        if self.steps.count != 0 {
+            return Ok(self.steps);
+        }
+        if self.list.count <= meta_count(&self.list) {
+            return Err(Refusal::Default);
+        }
+        Ok(default_steps(DefaultRule::of(self.version), &self.list))
+    }
+
+    // The list that the plan leaves, by questions 3 to 11.
+    pub fn rewrite(&self) -> Result<ChannelList, Refusal>
+        ensures { stepped_of self.now.list result ≡ Plans.rewritten self.now.version self.now.list self.now.steps }
+    {
+        let steps = self.meant_steps()?;
+        run(&self.list, &steps)
     }
 }
 
-// Questions 3 to 11 of a plan on a list, and the list that the plan leaves; no
-// steps mean the default plan.
-pub fn rewrite(version: u32, list: ChannelList, steps: Steps) -> Stepped
-    ensures { result ≡ Plans.rewritten version list steps }
+// The default plan of a list, by questions 3 to 6.
+pub fn default_squeeze(version: u32, list: &ChannelList) -> Result<Steps, Refusal>
+    ensures value { Plans.planned_of result ≡ Plans.planned version list.now }
+    ensures room { IfOk result (λ steps. steps.count ≤ max_steps) }
 {
-    let meant = meant_steps(version, list, steps);
-    let answer = meant.answer;
-    if answer != 0 {
-        return Stepped { answer, list };
-    }
-    run(list, meant.steps)
+    let form = Form {
+        version,
+        list: *list,
+        steps: Steps::empty(),
+    };
+    form.meant_steps()
 }

@@ -12,7 +12,7 @@ use Rattle.list.specs.declared.ChannelList.{ChannelList}
 use Rattle.list.specs.Lists.{max_steps, channels, total}
 use Rattle.list.specs.Questions.{counted_total}
 use Rattle.list.proofs.Acceptance.{list_accepted}
-use Rattle.plan.specs.declared.Planned.{Planned}
+use Rattle.plan.specs.Plans.{Planned}
 use Rattle.plan.specs.declared.Steps.{Steps}
 use Rattle.plan.specs.Steps as S
 use Rattle.plan.specs.Plans.{meant, meant_steps, judge_plan}

@@ -11,7 +11,7 @@ use lib.Seq.{take_all}
 use borrow.Author.Tests.{eq-eqb, ne_eqb, le-leb, lt-leb}
 use Rattle.numbers.specs.Numbers.{refused_length}
 use Rattle.list.specs.declared.ChannelList.{ChannelList}
-use Rattle.list.specs.declared.Stepped.{Stepped}
+use Rattle.list.specs.Questions.{Stepped}
 use Rattle.list.specs.Lists.{max_channels, max_steps, channels}
 use Rattle.list.proofs.Tables.{table_length}
 use Rattle.list.proofs.Channels.{channels_length}

@@ -9,10 +9,14 @@ pub loop-width-init : goal.loop-width-init
 loop-width-init c = (c.requires.0, record { room = c.requires.1; so = refl })
 
 pub push_if-requires : goal.push_if-requires
-push_if-requires c = let i = c.loop-width.invariant in left_across _ _ _ i.0 _ _ _ _ i.1
+push_if-requires c =
+    let i = c.loop-width.invariant in
+    rw c.step.ensures (left_across _ _ _ i.0 _ _ _ _ i.1)
 
-pub push_if-steps-requires : goal.push_if-steps-requires
-push_if-steps-requires c = let i = c.loop-width.invariant in left_down _ _ _ i.0 _ _ _ _ i.1 _ c.push_if.ensures
+pub push_if-requires-in-loop-width : goal.push_if-requires-in-loop-width
+push_if-requires-in-loop-width c =
+    let i = c.loop-width.invariant in
+    rw c.step-in-loop-width.ensures (left_down _ _ _ i.0 _ _ _ _ i.1 _ (rw c.step.ensures at c.push_if.ensures))
 
 pub loop-width-smaller : goal.loop-width-smaller
 loop-width-smaller c =
@@ -23,7 +27,7 @@ loop-width-smaller c =
 pub loop-width-preserved : goal.loop-width-preserved
 loop-width-preserved c =
     let i = c.loop-width.invariant in
-    (i.0, left_more _ _ _ i.0 _ _ _ _ i.1 _ c.push_if.ensures _ _ _ c.push_if-steps.ensures c.lowered-width.ensures c.lowered-height.ensures)
+    (i.0, left_more _ _ _ i.0 _ _ _ _ i.1 _ (rw c.step.ensures at c.push_if.ensures) _ _ _ (rw c.step-in-loop-width.ensures at c.push_if-in-loop-width.ensures) c.lowered-width.ensures c.lowered-height.ensures)
 
 pub returns : goal.returns
 returns c = let i = c.loop-width.invariant in left_none _ _ _ i.0 _ _ _ _ i.1 c.loop-width-test.false

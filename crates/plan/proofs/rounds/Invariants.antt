@@ -8,7 +8,7 @@ use Rattle.plan.proofs.rounds.Given as goal
 
 abbrev pub invariant-loop-width : goal.invariant-loop-width
 invariant-loop-width l =
-    (1 ≤ l.stop) × Left l.stop l.m l.n (appended l.initial.steps (Default.rounds (l.initial.width + l.initial.height) l.stop l.m l.n l.initial.width l.initial.height)) l.steps l.width l.height
+    (1 ≤ l.stop) × Left l.stop l.others.begin l.others.number (appended l.initial.steps (Default.rounds (l.initial.width + l.initial.height) l.stop l.others.begin l.others.number l.initial.width l.initial.height)) l.steps l.width l.height
 
 abbrev pub decreases-loop-width : goal.decreases-loop-width
 decreases-loop-width l = l.width + l.height

@@ -1,35 +1,34 @@
 -- `judge` meets its contract: each return has the answers to the questions before it. Assumes nothing.
-use Rattle.list.specs.Questions.{count_allowed, judge_list}
+use Rattle.list.specs.Questions.{judge_list}
 use Rattle.list.proofs.Asking.{no, yes}
-use Rattle.list.proofs.Totals.{counted_over, counted_within}
 use Rattle.list.proofs.ChannelList.judge.Goals as goal
 
-pub returns-then-not-count : goal.returns-then-not-count
-unfolding judge_list count_allowed
-returns-then-not-count c = rw c.if-not-count.true
+pub returns-then-not-count_allowed : goal.returns-then-not-count_allowed
+unfolding judge_list
+returns-then-not-count_allowed c = rw (no c.count_allowed.ensures c.if-not-count_allowed.true)
 
 pub returns-then-not-channels_allowed : goal.returns-then-not-channels_allowed
-unfolding judge_list count_allowed
+unfolding judge_list
 returns-then-not-channels_allowed c =
     rw (
-      c.if-not-count.false,
+      yes c.count_allowed.ensures c.if-not-count_allowed.false,
       no c.channels_allowed.ensures c.if-not-channels_allowed.true,
     )
 
-pub returns-then-total-gt-MAX_SAMPLES : goal.returns-then-total-gt-MAX_SAMPLES
-unfolding judge_list count_allowed
-returns-then-total-gt-MAX_SAMPLES c =
+pub returns-then-not-total_allowed : goal.returns-then-not-total_allowed
+unfolding judge_list
+returns-then-not-total_allowed c =
     rw (
-      c.if-not-count.false,
+      yes c.count_allowed.ensures c.if-not-count_allowed.false,
       yes c.channels_allowed.ensures c.if-not-channels_allowed.false,
-      counted_over _ c.total.result c.total.ensures c.if-total-gt-MAX_SAMPLES.true,
+      no c.total_allowed.ensures c.if-not-total_allowed.true,
     )
 
 pub returns : goal.returns
-unfolding judge_list count_allowed
+unfolding judge_list
 returns c =
     rw (
-      c.if-not-count.false,
+      yes c.count_allowed.ensures c.if-not-count_allowed.false,
       yes c.channels_allowed.ensures c.if-not-channels_allowed.false,
-      counted_within _ c.total.result c.total.ensures c.if-total-gt-MAX_SAMPLES.false,
+      yes c.total_allowed.ensures c.if-not-total_allowed.false,
     )

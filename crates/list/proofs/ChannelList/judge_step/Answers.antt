@@ -60,7 +60,7 @@ returns-then-not-range_keeps_shifts c =
     let place = yes (place_found s l range _ c.place_allowed.ensures) c.if-not-place_allowed.false in
     let sides = yes (all_found s l range has_sides _ c.range_has_sides.ensures) c.if-not-range_has_sides.false in
     let room = room_found s l range c.len.result c.len.ensures c.if-len-step-gt-MAX_CHANNELS.false _
-        (all_found s l range (shifts_kept s.horizontal) _ c.range_keeps_shifts.ensures) in
+    (all_found s l range (shifts_kept s.horizontal) _ c.range_keeps_shifts.ensures) in
     rw (range, kinds, place, sides, no room c.if-not-range_keeps_shifts.true)
 
 pub returns : goal.returns
@@ -73,5 +73,5 @@ returns c =
     let place = yes (place_found s l range _ c.place_allowed.ensures) c.if-not-place_allowed.false in
     let sides = yes (all_found s l range has_sides _ c.range_has_sides.ensures) c.if-not-range_has_sides.false in
     let room = room_found s l range c.len.result c.len.ensures c.if-len-step-gt-MAX_CHANNELS.false _
-        (all_found s l range (shifts_kept s.horizontal) _ c.range_keeps_shifts.ensures) in
+    (all_found s l range (shifts_kept s.horizontal) _ c.range_keeps_shifts.ensures) in
     rw (range, kinds, place, sides, yes room c.if-not-range_keeps_shifts.false)

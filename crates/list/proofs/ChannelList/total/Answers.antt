@@ -16,13 +16,13 @@ pub returns-then-sum-more : goal.returns-then-sum-more
 unfolding counted_total
 returns-then-sum-more c =
     let n = total_next (Lists.channel_at c.args.self.now) c.loop-k.k _ c.loop-k.sum c.samples-more.result c.channel.result
-        c.loop-k-test.true c.channel.ensures c.samples-more.ensures ∙ c.loop-k.invariant.2 in
+    c.loop-k-test.true c.channel.ensures c.samples-more.ensures ∙ c.loop-k.invariant.2 in
     omega (arith, n, c.if-sum-more.true, c.loop-k.invariant.1)
 
 pub loop-k-preserved : goal.loop-k-preserved
 loop-k-preserved c =
     let n = total_next (Lists.channel_at c.args.self.now) c.loop-k.k _ c.loop-k.sum c.samples-more.result c.channel.result
-        c.loop-k-test.true c.channel.ensures c.samples-more.ensures ∙ c.loop-k.invariant.2 in
+    c.loop-k-test.true c.channel.ensures c.samples-more.ensures ∙ c.loop-k.invariant.2 in
     (omega (arith, c.loop-k-test.true), omega (arith, c.if-sum-more.false, c.loop-k.invariant.1), n)
 
 pub returns : goal.returns

@@ -4,6 +4,7 @@ use mathlib.Core.List.{List}
 use Prim.Native.Nat.{ℕ, ◌≤◌}
 use native.Mathlib.Omega.{arith}
 use lib.ListN.{length, get_or, get_or-eq_default}
+use Rattle.std.proofs.Common.{rules}
 use Rattle.list.specs.Lists.{max_steps}
 use Rattle.plan.proofs.Steps.step.Goals as goal
 
@@ -12,10 +13,7 @@ past xs k h e = get_or-eq_default xs 0 (omega arith)
 
 pub returns-then-k-ge-MAX_STEPS : goal.returns-then-k-ge-MAX_STEPS
 returns-then-k-ge-MAX_STEPS c =
-    let arrays = c.well_formed.0.1.1.1 in
+    let s = c.args.self.now in
     let k = c.args.k in
-    rw (
-      past _ k c.if-k-ge-MAX_STEPS.true arrays.0.1.0.1,
-      past _ k c.if-k-ge-MAX_STEPS.true arrays.1.0.1.0.1,
-      past _ k c.if-k-ge-MAX_STEPS.true arrays.1.1.0.1.0.1,
-    )
+    let h = c.if-k-ge-MAX_STEPS.true in
+    rw (past s.flags k h (search rules), past s.begins k h (search rules), past s.numbers k h (search rules))
