@@ -7,7 +7,7 @@ use lib.Dec.{eqb}
 use borrow.Author.Tests.{eqb-false}
 use Rattle.channel.specs.declared.Channel.{Channel}
 use Rattle.channel.specs.Channel.{is_meta}
-use Rattle.rect.specs.declared.GridRect.{GridRect}
+use Rattle.rect.specs.Rect.{GridRect}
 use Rattle.rect.specs.Rect.{StartRule, no_tile, tile, tile_unless_meta}
 use Rattle.rect.specs.Parts.{IsSpan}
 

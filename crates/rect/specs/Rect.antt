@@ -1,9 +1,18 @@
 -- The rectangle of a channel at grid position (gx, gy) (document 01, "Tiles"), in the paper's order. Definitions only.
-use Rattle.std.specs.Prelude.{Bool, cond, ◌||◌, not, ℕ, zero, suc, ◌-◌, ◌*◌, ◌/◌, ◌%◌, ◌^◌, min, eqb}
-use Rattle.numbers.specs.Numbers.{refused_form, refused_tile}
+use Rattle.std.specs.Prelude.{Bool, cond, ◌||◌, not, ℕ, zero, suc, ◌-◌, ◌*◌, ◌/◌, ◌%◌, ◌^◌, min, eqb, Result, Ok, Err}
+use Rattle.numbers.specs.declared.Refusal.{Refusal}
+use Rattle.numbers.specs.Numbers.{refused_form, refused_tile, number_of}
 use Rattle.channel.specs.declared.Channel.{Channel}
 use Rattle.channel.specs.Channel.{is_meta, is_allowed}
-use Rattle.rect.specs.declared.GridRect.{GridRect}
+use Rattle.rect.specs.declared.Rect as Declared
+
+-- the answer 0 with a rectangle, or a refusal's number with four zeros
+pub record GridRect : Type 0 where
+  pub answer : ℕ
+  pub x : ℕ
+  pub y : ℕ
+  pub width : ℕ
+  pub height : ℕ
 
 -- "Group dimension is 128, 256, 512 or 1,024"
 unfoldable pub group_allowed : ℕ → Bool
@@ -83,3 +92,11 @@ rect_of c output stored group gx gy =
     cond (not (is_allowed c)) (refused refused_form)
     (cond (not (group_allowed group)) (refused refused_tile)
     (by_kinds output stored c group gx gy))
+
+-- ---- what a call gives, as that record
+abbrev pub told : Declared.Rect → GridRect
+told r = record { answer = 0; x = r.x; y = r.y; width = r.width; height = r.height }
+
+abbrev pub answered : Result Declared.Rect Refusal → GridRect
+answered (Ok r) = told r
+answered (Err refusal) = refused (number_of refusal)

@@ -1,7 +1,7 @@
-// The rectangle of a channel at a grid position (document 01, "Tiles"; the
-// Rust's `get_grid_rect` and `grid_dim`). `get_grid_rect` is total: question
-// 4, then 13, and no other; where the Rust panics the answer is a refusal's
-// number. Its private helpers work on what those questions let through.
+// The rectangle of a channel at a grid position (the Rust's `get_grid_rect` and
+// `grid_dim`). `get_grid_rect` is total: the channel's form is judged first, then the
+// kinds and the group dimension, and nothing else; where the Rust panics the answer
+// is a refusal. Its private helpers work on what those questions let through.
 #![tactic(auto)]
 
 ghost use Rattle.std.specs.Prelude.{◌≡◌, true, ◌-◌, ◌≤◌, ◌<◌, min};
@@ -10,15 +10,15 @@ ghost use Rattle.rect.specs.Parts as Parts;
 ghost use Rattle.channel.specs.Channel.{is_allowed, max_shift};
 
 use channel::Channel;
-use numbers::{REFUSED_FORM, REFUSED_TILE};
+use numbers::Refusal;
 
 // Groups along one side of an LF group.
 const LF_GROUPS: u32 = 8;
 
-// The answer 0 with a rectangle, or a refusal's number with four zeros.
-#[derive(Clone, Copy)]
-pub struct GridRect {
-    pub answer: u32,
+// Where a tile starts in what is stored, and its sides; all 0 for a tile without
+// samples.
+#[derive(Clone, Copy, PartialEq, Eq, Debug)]
+pub struct Rect {
     pub x: u32,
     pub y: u32,
     pub width: u32,
@@ -33,7 +33,9 @@ struct Span {
 }
 
 // Where a tile starts in what is stored: at 0, at its start in the channel
-// itself, or at that start's place within the LF tile.
+// itself, or at that start's place within the LF tile. A closure in its place would
+// be no plainer: `span_of` and `tile` would state what it needs (an LF tile above 0)
+// and what it gives.
 #[derive(Clone, Copy)]
 enum StoredStart {
     Zero,
@@ -41,35 +43,23 @@ enum StoredStart {
     WithinLf,
 }
 
-fn no_tile() -> GridRect
-    ensures { result ≡ Spec.no_tile }
-{
-    GridRect {
-        answer: 0,
-        x: 0,
-        y: 0,
-        width: 0,
-        height: 0,
+impl StoredStart {
+    fn start(self, start: u32, lf: u32) -> u32
+        requires { 0 < lf }
+        ensures { result ≡ Parts.rule_of self start lf }
+    {
+        match self {
+            StoredStart::Zero => 0,
+            StoredStart::Itself => start,
+            StoredStart::WithinLf => start % lf,
+        }
     }
 }
 
-fn refused(number: u32) -> GridRect
-    ensures { result ≡ Spec.refused number }
+fn whole(channel: Channel) -> Rect
+    ensures { Spec.told result ≡ Spec.whole channel }
 {
-    GridRect {
-        answer: number,
-        x: 0,
-        y: 0,
-        width: 0,
-        height: 0,
-    }
-}
-
-fn whole(channel: Channel) -> GridRect
-    ensures { result ≡ Spec.whole channel }
-{
-    GridRect {
-        answer: 0,
+    Rect {
         x: 0,
         y: 0,
         width: channel.width,
@@ -94,22 +84,7 @@ fn tile_side(dimension: u32, shift: u8) -> u32
 fn size_from(side: u32, start: u32, tile: u32) -> u32
     ensures { result ≡ min (side - start) tile }
 {
-    if side <= start {
-        return 0;
-    }
-    let left = side - start;
-    if left < tile { left } else { tile }
-}
-
-fn start_in(rule: StoredStart, start: u32, lf: u32) -> u32
-    requires { 0 < lf }
-    ensures { result ≡ Parts.rule_of rule start lf }
-{
-    match rule {
-        StoredStart::Zero => 0,
-        StoredStart::Itself => start,
-        StoredStart::WithinLf => start % lf,
-    }
+    side.saturating_sub(start).min(tile)
 }
 
 // One direction of a tile. Only one that is not empty has an LF tile above 0,
@@ -133,7 +108,7 @@ fn span_of(
     }
     let lf = tile_side(LF_GROUPS * group, shift);
     Span {
-        start: start_in(rule, start, lf),
+        start: rule.start(start, lf),
         size,
     }
 }
@@ -145,30 +120,34 @@ fn tile(
     group: u32,
     gx: u16,
     gy: u16,
-) -> GridRect
+) -> Result<Rect, Refusal>
     requires { Parts.Dimensions dimension group × (is_allowed channel ≡ true) }
-    ensures { result ≡ Spec.tile_unless_meta (Parts.rule_of rule) dimension channel group gx gy }
+    ensures { Spec.answered result ≡ Spec.tile_unless_meta (Parts.rule_of rule) dimension channel group gx gy }
 {
     if channel.is_meta() {
-        return refused(REFUSED_TILE);
+        return Err(Refusal::Tile);
     }
     let across = span_of(rule, dimension, group, channel.width, channel.hshift, gx);
     let down = span_of(rule, dimension, group, channel.height, channel.vshift, gy);
     if (across.size == 0) | (down.size == 0) {
-        return no_tile();
+        return Ok(Rect {
+            x: 0,
+            y: 0,
+            width: 0,
+            height: 0,
+        });
     }
-    GridRect {
-        answer: 0,
+    Ok(Rect {
         x: across.start,
         y: down.start,
         width: across.size,
         height: down.size,
-    }
+    })
 }
 
-// Kinds are None (0), LF (1) and HF (2). The match is over both as one number,
-// the output kind in its upper byte and the stored kind in its lower: no other
-// pair has the number of a known one.
+// Kinds are None (0), LF (1) and HF (2); the first of a pair is the output kind, the
+// second the stored kind. They stay numbers, matched once over the pairs: a rule of
+// this project, as any byte may come from C.
 pub fn get_grid_rect(
     channel: Channel,
     output: u8,
@@ -176,23 +155,23 @@ pub fn get_grid_rect(
     group: u32,
     gx: u16,
     gy: u16,
-) -> GridRect
-    ensures { result ≡ Spec.rect_of channel output stored group gx gy }
+) -> Result<Rect, Refusal>
+    ensures { Spec.answered result ≡ Spec.rect_of channel output stored group gx gy }
 {
     if !channel.is_allowed() {
-        return refused(REFUSED_FORM);
+        return Err(Refusal::Form);
     }
     if !is_group_allowed(group) {
-        return refused(REFUSED_TILE);
+        return Err(Refusal::Tile);
     }
     let lf = LF_GROUPS * group;
-    match (output as u32) * 0x100 + (stored as u32) {
-        0x000 => whole(channel),
-        0x100 => tile(StoredStart::Itself, lf, channel, group, gx, gy),
-        0x101 => tile(StoredStart::Zero, lf, channel, group, gx, gy),
-        0x200 => tile(StoredStart::Itself, group, channel, group, gx, gy),
-        0x201 => tile(StoredStart::WithinLf, group, channel, group, gx, gy),
-        0x202 => tile(StoredStart::Zero, group, channel, group, gx, gy),
-        _ => refused(REFUSED_TILE),
+    match (output, stored) {
+        (0, 0) => Ok(whole(channel)),
+        (1, 0) => tile(StoredStart::Itself, lf, channel, group, gx, gy),
+        (1, 1) => tile(StoredStart::Zero, lf, channel, group, gx, gy),
+        (2, 0) => tile(StoredStart::Itself, group, channel, group, gx, gy),
+        (2, 1) => tile(StoredStart::WithinLf, group, channel, group, gx, gy),
+        (2, 2) => tile(StoredStart::Zero, group, channel, group, gx, gy),
+        _ => Err(Refusal::Tile),
     }
 }

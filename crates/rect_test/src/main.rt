@@ -1,10 +1,11 @@
-// Replays rectangle calls (tests/rects.py made `stdin`, of the published
-// Rust's answers and of document 01's rule). Prints how many there were and
-// how many came out right.
+// Replays rectangle calls (tests/rects.py made `stdin`, of the published Rust's
+// answers and of the rule for tiles). Prints how many there were and how many
+// came out right.
 #![tactic(auto)]
 
 use channel::Channel;
-use rect::GridRect;
+use numbers::answer_of;
+use rect::Rect;
 use samples::word_at;
 use std::io;
 
@@ -18,58 +19,55 @@ const INPUT: usize = 524_288;
 
 // The number at `at` as 16 bits; a larger one is the largest.
 fn position_at(bytes: &[u8], at: usize) -> u16 {
-    let n = word_at(bytes, at);
-    if n < 0x1_0000 { n as u16 } else { 0xFFFF }
+    u16::try_from(word_at(bytes, at)).unwrap_or(u16::MAX)
 }
 
 // The number at `at` as 8 bits; a larger one is the largest.
 fn byte_at(bytes: &[u8], at: usize) -> u8 {
-    let n = word_at(bytes, at);
-    if n < 0x100 { n as u8 } else { 0xFF }
+    u8::try_from(word_at(bytes, at)).unwrap_or(u8::MAX)
 }
 
-// Whether the five numbers from `at` on are those of `r`.
-fn is_at(bytes: &[u8], at: usize, r: GridRect) -> bool {
-    if bytes.len() < at {
-        return false;
+// The rectangle that a case wants.
+fn wanted(case: &[u8]) -> Rect {
+    Rect {
+        x: word_at(case, 40),
+        y: word_at(case, 44),
+        width: word_at(case, 48),
+        height: word_at(case, 52),
     }
-    (r.answer == word_at(bytes, at))
-        & (r.x == word_at(bytes, at + 4))
-        & (r.y == word_at(bytes, at + 8))
-        & (r.width == word_at(bytes, at + 12))
-        & (r.height == word_at(bytes, at + 16))
 }
 
-// Whether the case that starts at `at` comes out right.
-fn case_agrees(bytes: &[u8], at: usize) -> bool {
-    if bytes.len() < at {
-        return false;
-    }
+// Whether a case comes out right; after a refusal its rectangle is all zeros.
+fn case_agrees(case: &[u8]) -> bool {
     let channel = Channel {
-        width: word_at(bytes, at),
-        height: word_at(bytes, at + 4),
-        hshift: byte_at(bytes, at + 8),
-        vshift: byte_at(bytes, at + 12),
+        width: word_at(case, 0),
+        height: word_at(case, 4),
+        hshift: byte_at(case, 8),
+        vshift: byte_at(case, 12),
     };
-    let r = rect::get_grid_rect(
+    let found = rect::get_grid_rect(
         channel,
-        byte_at(bytes, at + 16),
-        byte_at(bytes, at + 20),
-        word_at(bytes, at + 24),
-        position_at(bytes, at + 28),
-        position_at(bytes, at + 32),
+        byte_at(case, 16),
+        byte_at(case, 20),
+        word_at(case, 24),
+        position_at(case, 28),
+        position_at(case, 32),
     );
-    is_at(bytes, at + 36, r)
+    let nothing = Rect {
+        x: 0,
+        y: 0,
+        width: 0,
+        height: 0,
+    };
+    let answer = answer_of(found.map(|_| ()));
+    (answer == word_at(case, 36)) & (found.unwrap_or(nothing) == wanted(case))
 }
 
 fn cases_agree(bytes: &[u8]) -> u64 {
-    let mut right = 0u64;
-    for i in 0..bytes.len() / CASE {
-        if case_agrees(bytes, i * CASE) {
-            right += 1;
-        }
-    }
-    right
+    bytes
+        .chunks_exact(CASE)
+        .filter(|case| case_agrees(case))
+        .count() as u64
 }
 
 // An array of this size has a function of its own: a proof that meets the zeros

@@ -1,5 +1,6 @@
 // How a test program reads its cases, one after the other, from standard input,
-// and says how many came out right. No contract says what is read or written.
+// and says how many came out right. No contract says what is read or written: none
+// can say it of standard streams.
 #![tactic(auto)]
 
 ghost use Rattle.std.specs.Prelude.{◌≤◌, length, IfOk};
@@ -32,4 +33,26 @@ pub fn read_case<R: Read>(input: &mut R, space: &mut [u8]) -> io::Result<usize>
 // "kind", the cases of this kind and how many of them are right, on one line.
 pub fn say(rt: &impl Print, kind: &str, cases: u64, right: u64) -> io::Result<()> {
     println!(rt; "{kind}{cases} right {right}")
+}
+
+// Replays the cases of the next kind, how many stands before them, one after the other
+// in `space`, and says how many of them `agrees` finds right.
+pub fn kind<R: Read, F: FnMut(&[u8]) -> bool>(
+    rt: &impl Print,
+    input: &mut R,
+    name: &str,
+    space: &mut [u8],
+    mut agrees: F,
+) -> io::Result<()>
+    requires { F.IsAlwaysCallable agrees }
+{
+    let cases = read_word(input)?;
+    let mut right = 0u64;
+    for _ in 0..cases {
+        let n = read_case(input, space)?;
+        if agrees(&space[..n]) {
+            right += 1;
+        }
+    }
+    say(rt, name, cases as u64, right)
 }

@@ -1,6 +1,6 @@
 -- What the answers to questions 5, 12 and 14 say of a call (specs/Call.antt): the number that it gets, and that an accepted call's sizes and slices
 -- fit. Assumes nothing.
-use mathlib.Core.Path.{◌≡◌, refl, ap, ◌∙◌}
+use mathlib.Core.Path.{◌≡◌, refl, sym, ap, ◌∙◌}
 use mathlib.Core.Bool.{Bool, true, false, cond, ◌&&◌, ◌||◌}
 use mathlib.Core.List.{List}
 use mathlib.Core.Logic.{◌⊎◌, inl, inr}
@@ -13,8 +13,8 @@ use lib.IntN.{ℤ}
 use lib.ListN.{length}
 use Rattle.numbers.specs.Numbers.{max_samples, refused_samples, refused_sizes, refused_length}
 use Rattle.line.specs.Uncut.{Fitting, uncut}
-use Rattle.line.specs.Into.{outer_fits}
-use Rattle.line.proofs.Into.{and_true, outer_line}
+use Rattle.line.specs.Into.{outer_fits, uncut_into}
+use Rattle.line.proofs.Into.{and_true, outer_line, fitting_fits, into_fits}
 use Rattle.tile.specs.declared.Sides.{Sides}
 use Rattle.tile.specs.Call.{Call, area, area_allowed, areas_allowed, along, across, sides_small, sides_fit, line_fits, sizes_fit, slices_fit, answer, squeeze_on, squeeze_of, after}
 
@@ -25,7 +25,7 @@ or_true false b e = inr e
 
 -- ---- the number that a call gets
 module _ (c : Call) where
-  pub five : areas_allowed c ≡ false → answer c ≡ 5
+  five : areas_allowed c ≡ false → answer c ≡ 5
   unfolding answer
   five e = rw e
 
@@ -33,11 +33,11 @@ module _ (c : Call) where
   unfolding answer
   thirteen e f = rw (e, f)
 
-  pub twelve : areas_allowed c ≡ true → sizes_fit c ≡ true → slices_fit c ≡ false → answer c ≡ 12
+  twelve : areas_allowed c ≡ true → sizes_fit c ≡ true → slices_fit c ≡ false → answer c ≡ 12
   unfolding answer
   twelve e f g = rw (e, f, g)
 
-  pub none : areas_allowed c ≡ true → sizes_fit c ≡ true → slices_fit c ≡ true → answer c ≡ 0
+  none : areas_allowed c ≡ true → sizes_fit c ≡ true → slices_fit c ≡ true → answer c ≡ 0
   unfolding answer
   none e f g = rw (e, f, g)
 
@@ -45,8 +45,8 @@ module _ (c : Call) where
   unfolding after
   refused_after n = rw (ne_eqb (answer c) 0 n)
 
-  pub kept : (n : ℕ) → answer c ≡ suc n → after c ≡ c.out
-  kept n e = refused_after (λ z. omega arith)
+  kept : (n : ℕ) → answer c ≡ suc n → (suc n ≡ answer c) × (c.out ≡ after c)
+  kept n e = (sym e, sym (refused_after (λ z. omega arith)))
 
   pub made : answer c ≡ 0 → after c ≡ uncut (squeeze_of c)
   unfolding after
@@ -108,7 +108,7 @@ same_test n xs = refl
 line_fits_lem : (n : ℕ) (xs : List ℤ) → line_fits n xs ≡ true → (length xs ≡ 0) ⊎ (length xs ≡ n)
 line_fits_lem n xs e = outer_line n xs (same_test n xs ∙ e)
 
--- ---- an accepted call
+-- ---- a call whose sizes and slices fit
 module _ (c : Call) (f : sizes_fit c ≡ true) (g : slices_fit c ≡ true) where
   fit : SidesFit c.horizontal c.avg_sides c.res_sides c.out_sides
   unfolding sizes_fit
@@ -147,3 +147,45 @@ module _ (c : Call) (f : sizes_fit c ≡ true) (g : slices_fit c ≡ true) where
   out_length =
       let h = c.horizontal in
       lengths.2 ∙ area_by h c.out_sides ∙ rw (fit.out_across, fit.sum)
+
+-- ---- the tests of the code, in their order
+-- areas that are allowed, whose products fit therefore
+pub areas_small : {p q s : Bool} (a r o : Sides) → p ≡ area_allowed a → q ≡ area_allowed r → s ≡ area_allowed o → p && (q && s) ≡ true
+    → (area a ≤ max_samples) × (area r ≤ max_samples) × (area o ≤ max_samples)
+areas_small a r o ea er eo t =
+    let m = and_true _ _ t in
+    let n = and_true _ _ m.1 in
+    (area_small a (sym ea ∙ m.0), area_small r (sym er ∙ n.0), area_small o (sym eo ∙ n.1))
+
+module _ (c : Call) {p q s : Bool}
+    (ea : p ≡ area_allowed c.avg_sides) (er : q ≡ area_allowed c.res_sides) (eo : s ≡ area_allowed c.out_sides) where
+  areas : (b : Bool) → p && (q && s) ≡ b → areas_allowed c ≡ b
+  unfolding areas_allowed
+  areas b t = rw (← ea, ← er, ← eo) t
+
+  pub areas_refused : p && (q && s) ≡ false → (refused_samples ≡ answer c) × (c.out ≡ after c)
+  areas_refused t = kept c 4 (five c (areas false t))
+
+  module _ (yes : p && (q && s) ≡ true) {x : ℕ} {f n l : Bool} (ex : x ≡ across c.horizontal c.avg_sides)
+      (ef : f ≡ sides_fit c.horizontal c.avg_sides c.res_sides c.out_sides) (en : n ≡ outer_fits x c.next) (el : l ≡ outer_fits x c.prev) where
+    sizes : (b : Bool) → f && (n && l) ≡ b → sizes_fit c ≡ b
+    unfolding sizes_fit
+    sizes b t =
+        let k = across c.horizontal c.avg_sides in
+        rw (← same_test k c.next, ← same_test k c.prev, ← ef, ← ex, ← en, ← el) t
+
+    pub sizes_refused : f && (n && l) ≡ false → (refused_sizes ≡ answer c) × (c.out ≡ after c)
+    sizes_refused t = kept c 12 (thirteen c (areas true yes) (sizes false t))
+
+    module _ (also : f && (n && l) ≡ true) where
+      pub slices_refused : slices_fit c ≡ false → (refused_length ≡ answer c) × (c.out ≡ after c)
+      slices_refused t = kept c 11 (twelve c (areas true yes) (sizes true also) t)
+
+      -- a call that is accepted, with what the squeeze then made
+      pub accepted_made : slices_fit c ≡ true → (r : List ℤ) → r ≡ uncut_into (squeeze_of c) c.out → (0 ≡ answer c) × (r ≡ after c)
+      unfolding squeeze_of
+      accepted_made t r e =
+          let w = sizes true also in
+          let z = none c (areas true yes) w t in
+          let room = fitting_fits _ _ _ c.avg c.res c.next c.prev c.out (fitting c w t) (out_length c w t) in
+          (sym z, e ∙ sym (made c z ∙ into_fits (squeeze_of c) c.out room))

@@ -80,6 +80,21 @@ squeeze_of c = squeeze_on c.horizontal c.avg_sides c.res_sides c.avg c.res c.nex
 unfoldable pub after : Call → List ℤ
 after c = cond (eqb (answer c) 0) (uncut (squeeze_of c)) c.out
 
+-- the call of a direction, the sizes of average, residual and output, and the slices
+abbrev pub call_on : Bool → Sides → Sides → Sides → List ℤ → List ℤ → List ℤ → List ℤ → List ℤ → Call
+call_on horizontal a r o avg res next prev out =
+    record {
+      horizontal = horizontal;
+      avg_sides = a;
+      res_sides = r;
+      out_sides = o;
+      avg = avg;
+      res = res;
+      next = next;
+      prev = prev;
+      out = out;
+    }
+
 -- the call that numbers and slices make, horizontal unless the number is 0
 abbrev pub call : ℕ → ℕ → ℕ → ℕ → ℕ → ℕ → ℕ → List ℤ → List ℤ → List ℤ → List ℤ → List ℤ → Call
 call horizontal aw ah rw rh ow oh avg res next prev out =

@@ -1,64 +1,68 @@
-// The tile call (document 01, "Tiles"; the Rust's `do_hsqueeze_step` and
-// `do_vsqueeze_step`): a rectangle of samples from its averages and residuals,
-// with a neighbour line on either side or none. Total: questions 5, 12 and 14
-// in that order, each refusal with its number and the output slice untouched.
+// The tile call (the Rust's `do_hsqueeze_step` and `do_vsqueeze_step`): a rectangle of
+// samples from its averages and residuals, with a neighbour line on either side or
+// none. Total: the areas, the sizes and the slices' lengths are judged in that order,
+// and after a refusal the output slice is untouched.
 #![tactic(auto)]
 
 ghost use Rattle.std.specs.Prelude.{◌≡◌};
 ghost use Rattle.line.specs.Into.{uncut_into};
+ghost use Rattle.numbers.specs.Numbers.{answer_of};
 ghost use Rattle.tile.specs.Call as Call;
 
-use numbers::{MAX_SAMPLES, MAX_SIDE, REFUSED_LENGTH, REFUSED_SAMPLES, REFUSED_SIZES};
+use numbers::{MAX_SAMPLES, MAX_SIDE, Refusal};
 
 // Width and height of a rectangle.
-#[derive(Clone, Copy)]
+#[derive(Clone, Copy, PartialEq, Eq, Debug)]
 pub struct Sides {
     pub width: usize,
     pub height: usize,
 }
 
-// Question 5 of one rectangle. The product is not formed: it may not fit.
-fn area_allowed(s: Sides) -> bool
-    ensures { result ≡ Call.area_allowed s }
-{
-    let w = s.width;
-    if w == 0 {
-        return true;
+impl Sides {
+    // Not too many samples.
+    fn area_allowed(self) -> bool
+        ensures { result ≡ Call.area_allowed self }
+    {
+        match self.width.checked_mul(self.height) {
+            Some(area) => area <= MAX_SAMPLES,
+            None => false,
+        }
     }
-    s.height <= MAX_SAMPLES / w
+
+    // The side along a squeeze.
+    fn along(self, horizontal: bool) -> usize
+        ensures { result ≡ Call.along horizontal self }
+    {
+        if horizontal { self.width } else { self.height }
+    }
+
+    // The side that crosses it.
+    fn across(self, horizontal: bool) -> usize
+        ensures { result ≡ Call.across horizontal self }
+    {
+        if horizontal { self.height } else { self.width }
+    }
+
+    fn is_small(self) -> bool
+        ensures { result ≡ Call.sides_small self }
+    {
+        (self.width <= MAX_SIDE) & (self.height <= MAX_SIDE)
+    }
 }
 
-fn along(horizontal: bool, s: Sides) -> usize
-    ensures { result ≡ Call.along horizontal s }
-{
-    if horizontal { s.width } else { s.height }
-}
-
-fn across(horizontal: bool, s: Sides) -> usize
-    ensures { result ≡ Call.across horizontal s }
-{
-    if horizontal { s.height } else { s.width }
-}
-
-fn sides_small(s: Sides) -> bool
-    ensures { result ≡ Call.sides_small s }
-{
-    (s.width <= MAX_SIDE) & (s.height <= MAX_SIDE)
-}
-
-// Question 12, without the outer lines.
+// The sizes of averages, residuals and output, without the outer lines.
 fn sides_fit(horizontal: bool, a: Sides, r: Sides, o: Sides) -> bool
     ensures { result ≡ Call.sides_fit horizontal a r o }
 {
-    if !(sides_small(a) & (sides_small(r) & sides_small(o))) {
+    if !(a.is_small() & (r.is_small() & o.is_small())) {
         return false;
     }
-    let m = along(horizontal, a);
-    let n = along(horizontal, r);
-    let crossing = across(horizontal, a);
+    let m = a.along(horizontal);
+    let n = r.along(horizontal);
+    let crossing = a.across(horizontal);
     ((m == n) | (m == n + 1))
-        & ((along(horizontal, o) == m + n)
-            & ((across(horizontal, r) == crossing) & (across(horizontal, o) == crossing)))
+        & ((o.along(horizontal) == m + n)
+            & ((r.across(horizontal) == crossing) & (o.across(horizontal) == crossing)))
 }
 
 // The squeeze's output from its averages and residuals, where sizes fit.
@@ -74,62 +78,43 @@ fn unsqueeze<'a>(
 )
     ensures { out.new ≡ uncut_into (Call.squeeze_on horizontal a r avg.now res.now next.now prev.now) out.old }
 {
-    let aw = a.width;
-    let ah = a.height;
-    let rw = r.width;
-    let rh = r.height;
     if horizontal {
-        rows::unsqueeze_rows(avg, res, next, prev, aw, rw, ah, out);
+        rows::unsqueeze_rows(avg, res, next, prev, a.width, r.width, a.height, out);
     } else {
-        columns::unsqueeze_columns(avg, res, next, prev, ah, rh, aw, out);
+        columns::unsqueeze_columns(avg, res, next, prev, a.height, r.height, a.width, out);
     }
 }
 
-// A tile of aw by ah averages, rw by rh residuals and ow by oh samples of
-// output, horizontal unless the number is 0. `next` and `prev` are the next
-// average line and the previous output line, or empty. The answer is 0, or the
-// refusal's number.
+// A tile of averages, residuals and samples of output, each with the sides of its
+// rectangle. `next` and `prev` are the next average line and the previous output
+// line, or empty.
 pub fn squeeze_tile<'a>(
-    horizontal: u32,
-    aw: usize,
-    ah: usize,
-    rw: usize,
-    rh: usize,
-    ow: usize,
-    oh: usize,
+    horizontal: bool,
+    avgs: Sides,
+    ress: Sides,
+    outs: Sides,
     avg: &'a [i32],
     res: &[i32],
     next: &'a [i32],
     prev: &'a [i32],
     out: &mut [i32],
-) -> u32
-    ensures { (result ≡ Call.answer (Call.call horizontal aw ah rw rh ow oh avg.now res.now next.now prev.now out.old)) × (out.new ≡ Call.after (Call.call horizontal aw ah rw rh ow oh avg.now res.now next.now prev.now out.old)) }
+) -> Result<(), Refusal>
+    ensures { (answer_of result ≡ Call.answer (Call.call_on horizontal avgs ress outs avg.now res.now next.now prev.now out.old)) × (out.new ≡ Call.after (Call.call_on horizontal avgs ress outs avg.now res.now next.now prev.now out.old)) }
 {
-    let a = Sides {
-        width: aw,
-        height: ah,
-    };
-    let r = Sides {
-        width: rw,
-        height: rh,
-    };
-    let o = Sides {
-        width: ow,
-        height: oh,
-    };
-    if !(area_allowed(a) & (area_allowed(r) & area_allowed(o))) {
-        return REFUSED_SAMPLES;
+    if !(avgs.area_allowed() & (ress.area_allowed() & outs.area_allowed())) {
+        return Err(Refusal::Samples);
     }
-    let h = horizontal != 0;
-    let crossing = across(h, a);
-    if !(sides_fit(h, a, r, o)
+    let crossing = avgs.across(horizontal);
+    if !(sides_fit(horizontal, avgs, ress, outs)
         & (line::outer_fits(crossing, next) & line::outer_fits(crossing, prev)))
     {
-        return REFUSED_SIZES;
+        return Err(Refusal::Sizes);
     }
-    if !((avg.len() == aw * ah) & ((res.len() == rw * rh) & (out.len() == ow * oh))) {
-        return REFUSED_LENGTH;
+    if !((avg.len() == avgs.width * avgs.height)
+        & ((res.len() == ress.width * ress.height) & (out.len() == outs.width * outs.height)))
+    {
+        return Err(Refusal::Length);
     }
-    unsqueeze(h, a, r, avg, res, next, prev, out);
-    0
+    unsqueeze(horizontal, avgs, ress, avg, res, next, prev, out);
+    Ok(())
 }

@@ -1,16 +1,18 @@
 // Replays tile calls (tests/tiles.py made `stdin`): what the published Rust
-// answered, what document 01's rule gives around the block's sizes and at the
-// lines' ends, each refusal, and squeezes uncut and cut. The answer, every sample of the output and the
-// samples around it are compared. Prints, for each kind of case, how many there
-// were and how many came out right.
+// answered, what the rule for tiles gives around the block's sizes and at the
+// lines' ends, each refusal, and squeezes uncut and cut. The answer, every sample
+// of the output and the samples around it are compared. Prints, for each kind of
+// case, how many there were and how many came out right.
 #![tactic(auto)]
 
 ghost use Rattle.std.specs.Prelude.{◌<◌, ◌≤◌, length};
 
+use numbers::answer_of;
 use replay::{read_case, read_word, say};
 use samples::{decode, fill, kept, same, word_at};
 use std::io;
 use std::io::Read;
+use tile::Sides;
 
 // The head of a case, by bytes: the answer, the direction, six sides of eight
 // bytes each, and the lengths of the slices (averages, residuals, next line,
@@ -40,6 +42,15 @@ fn number_at(bytes: &[u8], at: usize) -> usize {
         return 0;
     }
     word_at(bytes, at) as usize + 0x1_0000_0000 * word_at(bytes, at + 4) as usize
+}
+
+// Rectangle `k` of the three: two sides of eight bytes each.
+fn sides_of(case: &[u8], k: u8) -> Sides {
+    let at = SIDES + 16 * k as usize;
+    Sides {
+        width: number_at(case, at),
+        height: number_at(case, at + 8),
+    }
 }
 
 // The length of slice `k`.
@@ -77,20 +88,17 @@ fn call<'a>(
     prev: &'a [i32],
     out: &mut [i32],
 ) -> u32 {
-    tile::squeeze_tile(
-        word_at(case, DIRECTION),
-        number_at(case, SIDES),
-        number_at(case, SIDES + 8),
-        number_at(case, SIDES + 16),
-        number_at(case, SIDES + 24),
-        number_at(case, SIDES + 32),
-        number_at(case, SIDES + 40),
+    answer_of(tile::squeeze_tile(
+        word_at(case, DIRECTION) != 0,
+        sides_of(case, 0),
+        sides_of(case, 1),
+        sides_of(case, 2),
         avg,
         res,
         next,
         prev,
         out,
-    )
+    ))
 }
 
 // Whether the call gives the case's answer. The four slices that are read stand

@@ -21,8 +21,8 @@ returns-then-size-eq0 c =
       starts = λ h. absurd (omega arith);
     }
 
-pub start_in-requires : goal.start_in-requires
-start_in-requires c =
+pub start-requires : goal.start-requires
+start-requires c =
     omega (arith, shr_mono c.args.shift c.requires.0.within)
 
 pub returns : goal.returns
@@ -30,5 +30,5 @@ returns c =
     let side = c.tile_side-tile.ensures in
     record {
       sized = rw side at c.size_from-size.ensures;
-      starts = λ h. rw (side, c.tile_side-lf.ensures) at c.start_in.ensures;
+      starts = λ h. rw (side, c.tile_side-lf.ensures) at c.start.ensures;
     }

@@ -15,7 +15,7 @@ pub returns-then-is_meta : goal.returns-then-is_meta
 unfolding tile_unless_meta
 returns-then-is_meta c =
     let meta : is_meta c.args.channel ≡ true = sym c.is_meta.ensures ∙ c.if-is_meta.true in
-    rw meta c.refused.ensures
+    rw meta
 
 pub span_of-across-requires : goal.span_of-across-requires
 span_of-across-requires c =
@@ -27,8 +27,7 @@ span_of-down-requires c =
 
 pub returns-then-across-down : goal.returns-then-across-down
 returns-then-across-down c =
-    c.no_tile.ensures
-    ∙ Tiles.empty c.args.channel (plain c.before.before.before.before.before.before) c.span_of-across.ensures c.span_of-down.ensures
+    Tiles.empty c.args.channel (plain c.before.before.before.before.before) c.span_of-across.ensures c.span_of-down.ensures
     c.if-across-down.true
 
 pub returns : goal.returns

@@ -14,11 +14,11 @@ use Rattle.tile.proofs.sides_fit.Lts as Lts
 use Rattle.tile.proofs.sides_fit.Reads as reads
 use Rattle.tile.proofs.sides_fit.Tie as tie
 
-abbrev Else-not-sides_small : Type 0
-Else-not-sides_small = Lts.Else1 tie.the-claims reads.Pre reads.Post
+abbrev Else-not-is_small : Type 0
+Else-not-is_small = Lts.Else1 tie.the-claims reads.Pre reads.Post
 
-abbrev After-sides_small-3 : Type 0
-After-sides_small-3 = Lts.After-sides_small3 tie.the-claims reads.Pre reads.Post
+abbrev After-is_small-3 : Type 0
+After-is_small-3 = Lts.After-is_small3 tie.the-claims reads.Pre reads.Post
 
 -- a small rectangle's side along the squeeze
 along-small : (h : Bool) (s : Sides) → sides_small s ≡ true → along h s ≤ max_side
@@ -27,16 +27,16 @@ along-small true s e = leb-true s.width max_side (and_true (leb s.width max_side
 along-small false s e = leb-true s.height max_side (and_true (leb s.width max_side) (leb s.height max_side) e).1
 
 -- what the three calls say together
-small : (c : After-sides_small-3) → let g = c.args in
-    (c.sides_small.result && (c.sides_small-2.result && c.sides_small-3.result))
+small : (c : After-is_small-3) → let g = c.args in
+    (c.is_small.result && (c.is_small-2.result && c.is_small-3.result))
     ≡ (sides_small g.a && (sides_small g.r && sides_small g.o))
-small c = rw (c.sides_small.ensures, c.sides_small-2.ensures, c.sides_small-3.ensures)
+small c = rw (c.is_small.ensures, c.is_small-2.ensures, c.is_small-3.ensures)
 
-too_large : (c : goal.Then-not-sides_small) → let g = c.args in (sides_small g.a && (sides_small g.r && sides_small g.o)) ≡ false
-too_large c = sym (small c.before) ∙ c.if-not-sides_small.true
+too_large : (c : goal.Then-not-is_small) → let g = c.args in (sides_small g.a && (sides_small g.r && sides_small g.o)) ≡ false
+too_large c = sym (small c.before) ∙ c.if-not-is_small.true
 
-all_small : (c : Else-not-sides_small) → let g = c.args in (sides_small g.a && (sides_small g.r && sides_small g.o)) ≡ true
-all_small c = sym (small c.before) ∙ c.if-not-sides_small.false
+all_small : (c : Else-not-is_small) → let g = c.args in (sides_small g.a && (sides_small g.r && sides_small g.o)) ≡ true
+all_small c = sym (small c.before) ∙ c.if-not-is_small.false
 
 -- the sides that are summed
 average-small : (c : goal.After-across-crossing) → c.along-m.result ≤ max_side
@@ -52,9 +52,9 @@ residual-small c =
     (along-small g.horizontal g.r
     (and_true (sides_small g.r) (sides_small g.o) (and_true (sides_small g.a) (sides_small g.r && sides_small g.o) (all_small c.before.before.before)).1).0)
 
-pub returns-then-not-sides_small : goal.returns-then-not-sides_small
+pub returns-then-not-is_small : goal.returns-then-not-is_small
 unfolding sides_fit
-returns-then-not-sides_small c = rw (too_large c)
+returns-then-not-is_small c = rw (too_large c)
 
 pub overflow_add-result : goal.overflow_add-result
 overflow_add-result c = omega (arith, residual-small c)

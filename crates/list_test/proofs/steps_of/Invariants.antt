@@ -1,7 +1,7 @@
--- `steps_at` is safe and ends. Assumes nothing.
+-- `steps_of` is safe and ends. Assumes nothing.
 use Prim.Native.Nat.{◌≤◌, ◌-◌}
 use Rattle.list.specs.Lists.{max_steps}
-use Rattle.list_test.proofs.steps_at.Given as goal
+use Rattle.list_test.proofs.steps_of.Given as goal
 
 abbrev pub invariant-loop-k : goal.invariant-loop-k
 invariant-loop-k l = l.k ≤ max_steps

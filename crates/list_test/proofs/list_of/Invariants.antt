@@ -1,7 +1,7 @@
--- `list_at` is safe and ends. Assumes nothing.
+-- `list_of` is safe and ends. Assumes nothing.
 use Prim.Native.Nat.{◌≤◌, ◌-◌}
 use Rattle.list.specs.Lists.{max_channels}
-use Rattle.list_test.proofs.list_at.Given as goal
+use Rattle.list_test.proofs.list_of.Given as goal
 
 abbrev pub invariant-loop-k : goal.invariant-loop-k
 invariant-loop-k l = l.k ≤ max_channels
