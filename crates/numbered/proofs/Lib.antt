@@ -1,5 +1,4 @@
 pub mod Cases
-pub mod Tested
 pub mod Fields
 pub mod Filling
 pub mod Arrays

@@ -2,15 +2,17 @@
 -- entry holds any number, a shift's 8 bits, a step's 16: a first channel or a number of channels past them is held to the largest entry, which
 -- question 7 refuses too.
 -- Definitions only.
-use Rattle.std.specs.Prelude.{Bool, ◌&&◌, List, ℕ, min, leb}
+use Rattle.std.specs.Prelude.{Bool, ◌&&◌, List, ℕ, ◌/◌, ◌%◌, min, eqb, leb}
 use Rattle.channel.specs.declared.Channel.{Channel}
 use Rattle.channel.specs.Channel.{meta_shift}
 use Rattle.list.specs.declared.ChannelList.{ChannelList}
 use Rattle.list.specs.Tables.{table, padded}
 use Rattle.list.specs.Lists as Lists
 use Rattle.list.specs.Lists.{max_steps}
+use Rattle.list.specs.declared.Step.{Step}
+use Rattle.plan.specs.declared.Form.{Form}
 use Rattle.plan.specs.declared.Steps.{Steps}
-use Rattle.numbered.specs.Numbered.{step_numbers, groups, channels_of, flags_of, first_at, number_at}
+use Rattle.numbered.specs.Numbered.{step_numbers, groups, channels_of, flags_at, flags_of, first_at, number_at}
 
 -- whether a channel's shifts fit their entries
 unfoldable pub shifts_fit : Channel → Bool
@@ -38,3 +40,17 @@ max_entry = 65_535
 
 abbrev pub held : ℕ → ℕ
 held n = min n max_entry
+
+-- step k of them, its first channel and its number put through f
+abbrev pub step_by : (ℕ → ℕ) → List ℕ → ℕ → Step
+step_by f ms k =
+    record {
+      horizontal = eqb (flags_at ms k % 2) 1;
+      inplace = eqb (flags_at ms k / 2 % 2) 1;
+      begin = f (first_at ms k);
+      number = f (number_at ms k);
+    }
+
+-- what is judged and written of numbers that fit
+abbrev pub form_of : ℕ → List ℕ → List ℕ → Form
+form_of version ns ms = record { version = version; list = list_of ns; steps = plan_by held ms }

@@ -4,7 +4,8 @@
 // never cut.
 #![tactic(auto)]
 
-ghost use Rattle.std.specs.Prelude.{◌≡◌, true, ◌<◌, ◌≤◌};
+ghost use Rattle.std.specs.Prelude.{◌≡◌, true, ◌<◌, ◌≤◌, IfOk};
+ghost use Rattle.numbers.specs.Numbers.{answer_of};
 ghost use Rattle.list.specs.Tables.{all};
 ghost use Rattle.list.specs.Lists.{max_channels, max_steps};
 ghost use Rattle.plan.specs.Steps.{flags_allowed};
@@ -12,18 +13,15 @@ ghost use Rattle.numbered.specs.Numbered as Spec;
 ghost use Rattle.numbered.specs.Arrays as Arrays;
 
 use channel::Channel;
-use list::{ChannelList, store};
-use numbers::{REFUSED_COUNT, REFUSED_FORM, REFUSED_LENGTH};
-use plan::Steps;
+use list::{ChannelList, Step};
+use numbers::Refusal;
+use plan::{Form, Steps};
 
 // Width, height and two shifts.
 pub const CHANNEL_NUMBERS: usize = 4;
 
 // Flags, first channel and number.
 pub const STEP_NUMBERS: usize = 3;
-
-// The largest first channel or number that a step's arrays hold.
-const MAX_ENTRY: u32 = 65_535;
 
 // Whether a list's entries hold the shifts of channel `k`; they hold any side.
 fn shifts_fit(channels: &[u32], k: usize) -> bool
@@ -39,26 +37,15 @@ fn shifts_fit(channels: &[u32], k: usize) -> bool
 fn channels_fit(channels: &[u32]) -> bool
     ensures { result ≡ all Arrays.shifts_fit (Spec.channels_of channels.now) }
 {
-    let count = channels.len() / CHANNEL_NUMBERS;
-    for k in 0..count {
-        if !shifts_fit(channels, k) {
-            return false;
-        }
-    }
-    true
+    (0..channels.len() / CHANNEL_NUMBERS).all(|k| shifts_fit(channels, k))
 }
 
 // Question 4, of the steps' flags.
 fn flags_allowed(steps: &[u32]) -> bool
     ensures { result ≡ all flags_allowed (Spec.flags_of steps.now) }
 {
-    let count = steps.len() / STEP_NUMBERS;
-    for k in 0..count {
-        if (Steps::ALL_FLAGS as u32) < steps[STEP_NUMBERS * k] {
-            return false;
-        }
-    }
-    true
+    let largest = Steps::ALL_FLAGS as u32;
+    (0..steps.len() / STEP_NUMBERS).all(|k| steps[STEP_NUMBERS * k] <= largest)
 }
 
 // Channel `k`, whose shifts fit.
@@ -81,32 +68,11 @@ fn list_of(channels: &[u32]) -> ChannelList
     ensures { result ≡ Arrays.list_of channels.now }
 {
     let count = channels.len() / CHANNEL_NUMBERS;
-    let mut widths = [0u32; 256];
-    let mut heights = [0u32; 256];
-    let mut hshifts = [0u8; 256];
-    let mut vshifts = [0u8; 256];
-    let mut origins = [0u8; 256];
+    let mut list = ChannelList::empty();
     for k in 0..count {
-        let c = channel_at(channels, k);
-        store(
-            c,
-            k as u8,
-            k,
-            &mut widths,
-            &mut heights,
-            &mut hshifts,
-            &mut vshifts,
-            &mut origins,
-        );
+        list.push(channel_at(channels, k), k as u8);
     }
-    ChannelList {
-        count,
-        widths,
-        heights,
-        hshifts,
-        vshifts,
-        origins,
-    }
+    list
 }
 
 // A first channel or number of channels as an array's entry. A larger one is
@@ -114,39 +80,41 @@ fn list_of(channels: &[u32]) -> ChannelList
 fn held(n: u32) -> u16
     ensures { result ≡ Arrays.held n }
 {
-    if n < MAX_ENTRY {
-        n as u16
-    } else {
-        MAX_ENTRY as u16
+    n.min(u16::MAX as u32) as u16
+}
+
+// Step `k`, its first channel and its number held to an entry.
+fn step_at(steps: &[u32], k: usize) -> Step
+    requires { k < Spec.groups Spec.step_numbers steps.now }
+    ensures { result ≡ Arrays.step_by Arrays.held steps.now k }
+{
+    let at = STEP_NUMBERS * k;
+    let flags = steps[at];
+    Step {
+        horizontal: flags % 2 == 1,
+        inplace: flags / 2 % 2 == 1,
+        begin: held(steps[at + 1]),
+        number: held(steps[at + 2]),
     }
 }
 
-// The steps of allowed flags, each first channel and number held to an entry.
+// The steps of allowed flags.
 fn steps_of(steps: &[u32]) -> Steps
     requires { (Spec.groups Spec.step_numbers steps.now ≤ max_steps) × (all flags_allowed (Spec.flags_of steps.now) ≡ true) }
     ensures { result ≡ Arrays.plan_by Arrays.held steps.now }
 {
     let count = steps.len() / STEP_NUMBERS;
-    let mut flags = [0u8; 64];
-    let mut begins = [0u16; 64];
-    let mut numbers = [0u16; 64];
+    let mut plan = Steps::empty();
     for k in 0..count {
-        let at = STEP_NUMBERS * k;
-        flags[k] = steps[at] as u8;
-        begins[k] = held(steps[at + 1]);
-        numbers[k] = held(steps[at + 2]);
+        plan.push(step_at(steps, k));
     }
-    Steps {
-        count,
-        flags,
-        begins,
-        numbers,
-    }
+    plan
 }
 
-// Questions 3 to 11.
-fn judge_numbers(version: u32, channels: &[u32], steps: &[u32]) -> u32
-    ensures { result ≡ Spec.judge_numbers version channels.now steps.now }
+// The version, the list and the steps of the numbers, by questions 3 to 11.
+fn form_of(version: u32, channels: &[u32], steps: &[u32]) -> Result<Form, Refusal>
+    ensures judged { answer_of result ≡ Spec.judge_numbers version channels.now steps.now }
+    ensures form { IfOk result (λ form. form ≡ Arrays.form_of version channels.now steps.now) }
 {
     let count = channels.len() / CHANNEL_NUMBERS;
     let step_count = steps.len() / STEP_NUMBERS;
@@ -154,12 +122,18 @@ fn judge_numbers(version: u32, channels: &[u32], steps: &[u32]) -> u32
         & (count <= ChannelList::MAX_CHANNELS)
         & (step_count <= ChannelList::MAX_STEPS))
     {
-        return REFUSED_COUNT;
+        return Err(Refusal::Count);
     }
     if !(channels_fit(channels) & flags_allowed(steps)) {
-        return REFUSED_FORM;
+        return Err(Refusal::Form);
     }
-    plan::rewrite(version, list_of(channels), steps_of(steps)).answer
+    let form = Form {
+        version,
+        list: list_of(channels),
+        steps: steps_of(steps),
+    };
+    form.rewrite()?;
+    Ok(form)
 }
 
 // Questions 3 to 11 and 14, then the record over the front of `record` and its
@@ -171,21 +145,15 @@ pub fn record_of_numbers(
     steps: &[u32],
     record: &mut [u8],
     length: &mut [u32],
-) -> u32
-    ensures { (result ≡ Spec.answer version channels.now steps.now «record».old length.old) × («record».new ≡ Spec.record_after version channels.now steps.now «record».old length.old) × (length.new ≡ Spec.length_after version channels.now steps.now «record».old length.old) }
+) -> Result<(), Refusal>
+    ensures { (answer_of result ≡ Spec.answer version channels.now steps.now «record».old length.old) × («record».new ≡ Spec.record_after version channels.now steps.now «record».old length.old) × (length.new ≡ Spec.length_after version channels.now steps.now «record».old length.old) }
 {
-    let answer = judge_numbers(version, channels, steps);
-    if answer != 0 {
-        return answer;
-    }
+    let form = form_of(version, channels, steps)?;
     let whole = (channels.len() % CHANNEL_NUMBERS == 0) & (steps.len() % STEP_NUMBERS == 0);
     if !(whole & (1 <= length.len())) {
-        return REFUSED_LENGTH;
+        return Err(Refusal::Length);
     }
-    let written = record::write_record(version, list_of(channels), steps_of(steps), record);
-    if written.answer != 0 {
-        return written.answer;
-    }
-    length[0] = written.length as u32;
-    0
+    let written = record::write_record(&form, record)?;
+    length[0] = written as u32;
+    Ok(())
 }

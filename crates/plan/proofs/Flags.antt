@@ -24,10 +24,11 @@ three n = go (leb n 3) refl
     go true h = sym (lt-ltb n 4 (omega (arith, leb-true n 3 h)))
     go false h = sym (le-ltb n 4 (omega (arith, leb-false n 3 h)))
 
-ranged : (s : Steps) (k n : ℕ) → list_all (λ j. leb (flags_at s j) 3) (range_with_len k n) ≡ all flags_allowed (table (flags_at s) k n)
-ranged s k zero = refl
-ranged s k (suc n) = rw (add-one, three (flags_at s k)) (ap (λ (b : Bool). flags_allowed (flags_at s k) && b) (ranged s (suc k) n))
+-- the flags that f gives, each tested by the library
+pub three_ranged : (f : ℕ → ℕ) (k n : ℕ) → list_all (λ j. leb (f j) 3) (range_with_len k n) ≡ all flags_allowed (table f k n)
+three_ranged f k zero = refl
+three_ranged f k (suc n) = rw (add-one, three (f k)) (ap (λ (b : Bool). flags_allowed (f k) && b) (three_ranged f (suc k) n))
 
 pub flags_ranged : (s : Steps) → s.count ≤ max_steps → list_all (λ j. leb (flags_at s j) 3) (range_with_len 0 s.count) ≡ all flags_allowed (all_flags s)
 unfolding all_flags
-flags_ranged s h = let z : min s.count max_steps ≡ s.count = omega arith in ranged s 0 s.count ∙ rw z
+flags_ranged s h = let z : min s.count max_steps ≡ s.count = omega arith in three_ranged (flags_at s) 0 s.count ∙ rw z

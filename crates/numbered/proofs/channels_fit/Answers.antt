@@ -1,23 +1,19 @@
--- `channels_fit` meets its contract: the channels passed fit (proofs/Tested.antt). Assumes nothing.
-use borrow.Author.Rules.{rules}
-use Rattle.list.proofs.Asking.{no, yes}
+-- `channels_fit` meets its contract: the library's test of every channel. Assumes nothing.
+use Rattle.std.proofs.Common.{rules, tests, refl, arith, ◌≡◌, ◌∙◌, ◌-◌}
+use Rattle.std.proofs.lemmas.Iterator.{YieldsList-from_range}
+use Rattle.std.proofs.lemmas.Iterator.Search.{all_from_yields_List}
+use Rattle.list.proofs.Tables.{all_ranged}
 use Rattle.numbered.specs.Numbered as N
 use Rattle.numbered.specs.Numbered.{channel_numbers, groups, channel_at}
-use Rattle.numbered.proofs.Tested.{tested_none, tested_more, tested_stop, tested_all}
+use Rattle.numbered.specs.Arrays.{shifts_fit}
 use Rattle.numbered.proofs.channels_fit.Goals as goal
-
-pub loop-k-init : goal.loop-k-init
-loop-k-init c = tested_none _ _ _
-
-pub returns-then-not-shifts_fit : goal.returns-then-not-shifts_fit
-unfolding N.channels_of
-returns-then-not-shifts_fit c =
-    tested_stop _ _ _ c.loop-k.k (search rules) c.loop-k.invariant (no c.shifts_fit.ensures c.if-not-shifts_fit.true)
-
-pub loop-k-preserved : goal.loop-k-preserved
-loop-k-preserved c =
-    tested_more _ _ _ c.loop-k.k (search rules) c.loop-k.invariant (yes c.shifts_fit.ensures c.if-not-shifts_fit.false)
 
 pub returns : goal.returns
 unfolding N.channels_of
-returns c = tested_all _ _ _ c.loop-k.k c.loop-k-test.false c.loop-k.invariant
+returns c =
+    let ns = c.args.channels.now in
+    let m = groups channel_numbers ns in
+    let n : m - 0 ≡ m = omega arith in
+    all_from_yields_List (λ k. shifts_fit (channel_at ns k)) _ _ _ c.all.ensures.ran (YieldsList-from_range 0 m m refl n)
+    (λ x b q k. search (rules, tests))
+    ∙ all_ranged (channel_at ns) shifts_fit 0 m

@@ -1,26 +1,21 @@
--- `flags_allowed` meets its contract: the flags passed are allowed (proofs/Tested.antt). Assumes nothing.
-use borrow.Author.Tests.{lt-ltb, le-ltb}
-use borrow.Author.Rules.{rules}
-use Rattle.plan.specs.Steps as S
-use Rattle.plan.specs.Steps.{flags_allowed}
+-- `flags_allowed` meets its contract: the library's test of every step. Assumes nothing.
+use Rattle.std.proofs.Common.{rules, tests, refl, arith, ◌≡◌, ◌∙◌, ◌-◌}
+use Rattle.std.proofs.lemmas.Iterator.{YieldsList-from_range}
+use Rattle.std.proofs.lemmas.Iterator.Search.{all_from_yields_List}
+use Rattle.list.proofs.Tables.{all_ranged}
 use Rattle.numbered.specs.Numbered as N
+use Rattle.plan.proofs.Flags.{three_ranged}
+use lib.Dec.{leb}
+use Rattle.plan.specs.Steps.{flags_allowed}
 use Rattle.numbered.specs.Numbered.{step_numbers, groups, flags_at}
-use Rattle.numbered.proofs.Tested.{tested_none, tested_more, tested_stop, tested_all}
 use Rattle.numbered.proofs.flags_allowed.Goals as goal
-
-pub loop-k-init : goal.loop-k-init
-loop-k-init c = tested_none _ _ _
-
-pub returns-then-steps-k : goal.returns-then-steps-k
-unfolding N.flags_of S.flags_allowed
-returns-then-steps-k c =
-    tested_stop _ _ _ c.loop-k.k (search rules) c.loop-k.invariant (le-ltb _ 4 c.if-steps-k.true)
-
-pub loop-k-preserved : goal.loop-k-preserved
-unfolding S.flags_allowed
-loop-k-preserved c =
-    tested_more _ _ _ c.loop-k.k (search rules) c.loop-k.invariant (lt-ltb (flags_at c.args.steps.now c.loop-k.k) 4 (search rules))
 
 pub returns : goal.returns
 unfolding N.flags_of
-returns c = tested_all _ _ _ c.loop-k.k c.loop-k-test.false c.loop-k.invariant
+returns c =
+    let ms = c.args.steps.now in
+    let m = groups step_numbers ms in
+    let n : m - 0 ≡ m = omega arith in
+    all_from_yields_List (λ k. leb (flags_at ms k) 3) _ _ _ c.all.ensures.ran (YieldsList-from_range 0 m m refl n)
+    (λ x b q k. search (rules, tests))
+    ∙ three_ranged (flags_at ms) 0 m

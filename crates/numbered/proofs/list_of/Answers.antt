@@ -1,32 +1,41 @@
--- `list_of` meets its contract: up to k the arrays hold the channels of the numbers and their own positions, and zeros after them. Assumes nothing.
-use mathlib.Core.Path.{sym, ◌∙◌}
+-- `list_of` meets its contract: each turn pushes a channel and its position. Assumes nothing.
+use mathlib.Core.Path.{◌≡◌, refl, sym, ◌∙◌}
 use native.Mathlib.Omega.{arith}
 use borrow.Author.Rules.{rules}
 use lib.ListN.{length}
+use Rattle.list.specs.Lists as Lists
+use Rattle.list.specs.Lists.{own_positions}
 use Rattle.list.proofs.Channels.{own_length, own_at}
-use Rattle.list.proofs.Filled.{filling_none, filling_stored, filling_all}
+use Rattle.list.proofs.Filled.{filling_empty, filling_pushed, pushed_count, filling_done}
 use Rattle.numbered.specs.Numbered.{channels_of}
 use Rattle.numbered.proofs.Fields.{channels_count, channel_is, channel_fits}
 use Rattle.numbered.proofs.list_of.Goals as goal
 
 pub loop-k-init : goal.loop-k-init
-loop-k-init c = (c.requires.0, omega arith, filling_none _ _)
+unfolding Lists.holding
+loop-k-init c = rw c.empty-list.ensures (c.requires.0, omega arith, refl, filling_empty (channels_of c.args.channels.now) _)
 
-pub channel_at-c-requires : goal.channel_at-c-requires
-channel_at-c-requires c =
-    (search rules, channel_fits c.args.channels.now c.loop-k.k (search rules) c.requires.1)
+pub channel_at-requires : goal.channel_at-requires
+channel_at-requires c = (c.loop-k-test.true, channel_fits c.args.channels.now c.loop-k.k c.loop-k-test.true c.requires.1)
 
 pub loop-k-preserved : goal.loop-k-preserved
 loop-k-preserved c =
     let i = c.loop-k.invariant in
-    let is = c.channel_at-c.ensures ∙ channel_is c.args.channels.now c.loop-k.k (search rules) in
     let ns = c.args.channels.now in
     let n = channels_count ns in
-    let own = own_at (length (channels_of ns)) c.loop-k.k (search rules) in
-    (i.0, omega arith, filling_stored _ _ _ _ _ _ _ _ i.2 c.channel_at-c.result c.loop-k.k (omega arith) is own c.store.ensures)
+    let h = c.loop-k-test.true in
+    let k = c.loop-k.k in
+    let v = c.channel_at.result in
+    let is = c.channel_at.ensures ∙ channel_is ns k h in
+    let own = own_at (length (channels_of ns)) k (omega arith) in
+    let f = filling_pushed (channels_of ns) _ c.loop-k.list i.3 (omega arith) v k (rw i.2 is) (rw i.2 own) in
+    let m = pushed_count c.loop-k.list v k (omega arith) in
+    rw c.push.ensures (i.0, omega arith, omega (arith, m), f)
 
 pub returns : goal.returns
 returns c =
-    let n = channels_count c.args.channels.now in
-    filling_all _ _ c.loop-k.widths c.loop-k.heights c.loop-k.hshifts c.loop-k.vshifts c.loop-k.origins c.loop-k.k c.loop-k.invariant.2 _ (sym n)
-    (own_length _ ∙ n) c.loop-k-test.false
+    let ns = c.args.channels.now in
+    let n = channels_count ns in
+    let i = c.loop-k.invariant in
+    let h = c.loop-k-test.false in
+    filling_done (channels_of ns) (own_positions (length (channels_of ns))) c.loop-k.list i.3 (omega arith) (own_length (length (channels_of ns)))
