@@ -6,7 +6,7 @@ use Rattle.list.specs.declared.Step.{Step}
 use Rattle.list.specs.Tables.{all}
 use Rattle.plan.specs.Version.{standard_version}
 use Rattle.record.specs.Bytes.{strip_tag, is_strip, record_of}
-use Rattle.record.specs.declared.Record.{Record}
+use Rattle.record.specs.Told.{Record}
 use Rattle.record.specs.Reading.{Form, tag_of, field_size, has_version_tag, form_of}
 use Rattle.record.specs.Records.{read_answer, read_of, steps_of}
 use Rattle.record.specs.Laws.{AreBytes}

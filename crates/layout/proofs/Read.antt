@@ -10,7 +10,7 @@ use Rattle.plan.specs.Steps as S
 use Rattle.plan.specs.Version.{is_version}
 use Rattle.plan.specs.Plans.{judge_plan, rewritten, meant_steps}
 use Rattle.plan.proofs.Judged.{plan_answer, judged_version, meant_is, reached_few, reached_back, reached_origins}
-use Rattle.record.specs.declared.Record.{Record}
+use Rattle.record.specs.Told.{Record}
 use Rattle.record.specs.Reading.{form_of}
 use Rattle.record.specs.Records.{packed_form, read_answer, read_of, steps_of, reached_of, origins_of}
 use Rattle.record.proofs.Outcomes.{read_refused, form_judged, form_read}

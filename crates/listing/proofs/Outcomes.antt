@@ -11,7 +11,7 @@ use borrow.Author.Tests.{ne_eqb, leb-true}
 use Rattle.numbers.specs.Numbers.{refused_length}
 use Rattle.list.specs.Lists.{channels}
 use Rattle.plan.specs.Steps.{steps}
-use Rattle.record.specs.declared.Record.{Record}
+use Rattle.record.specs.Told.{Record}
 use Rattle.record.specs.Records.{read_of}
 use Rattle.record.proofs.Readings.{read_answer_lem, version_is, read_zero, list_back, steps_back}
 use Rattle.listing.specs.Text.{numbered, refused_word}

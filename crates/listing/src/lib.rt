@@ -1,20 +1,21 @@
-// The listing of a record (document 01, the program squeeze-list): record bytes
-// in, text bytes out. Total.
+// The listing of a record, as the program squeeze-list prints it: record bytes in,
+// text bytes out. Total.
 #![tactic(auto)]
 
-ghost use Rattle.std.specs.Prelude.{◌≡◌, true, ◌+◌, ◌*◌, ◌%◌, ◌≤◌, length};
+ghost use Rattle.std.specs.Prelude.{◌≡◌, true, ◌+◌, ◌*◌, ◌%◌, ◌≤◌, length, IfOk, OnErr};
+ghost use Rattle.numbers.specs.Numbers.{answer_of};
 ghost use Rattle.list.specs.Lists.{max_channels, max_steps, channels};
 ghost use Rattle.plan.specs.Version.{is_version};
 ghost use Rattle.plan.specs.Steps as StepsSpec;
-ghost use Rattle.plan.specs.Plans.{judge_plan};
+ghost use Rattle.record.specs.Records.{read_answer};
 ghost use Rattle.listing.specs.Text as Text;
 ghost use Rattle.listing.specs.Putting as Putting;
 ghost use Rattle.listing.specs.Putting.{Put};
 ghost use Rattle.listing.specs.Listing as Spec;
 
 use channel::Channel;
-use list::{ChannelList, Step, entry_of};
-use numbers::REFUSED_LENGTH;
+use list::{ChannelList, Step};
+use numbers::Refusal;
 use plan::Steps;
 
 // Room for any listing: at most 64 step lines and 256 channel lines.
@@ -177,89 +178,86 @@ fn put_channel(c: Channel, at: usize, text: &mut [u8]) -> usize
     put_word(b"\n", end, text)
 }
 
-fn put_steps(steps: Steps, at: usize, text: &mut [u8]) -> usize
-    requires { (steps.count ≤ max_steps) × (at + Putting.step_room * steps.count ≤ length text.old) }
-    ensures put { Put (Text.step_lines (StepsSpec.steps steps)) at text.old text.new result }
-    ensures room { result ≤ at + Putting.step_room * steps.count }
+fn put_steps(steps: &Steps, at: usize, text: &mut [u8]) -> usize
+    requires { (steps.now.count ≤ max_steps) × (at + Putting.step_room * steps.now.count ≤ length text.old) }
+    ensures put { Put (Text.step_lines (StepsSpec.steps steps.now)) at text.old text.new result }
+    ensures room { result ≤ at + Putting.step_room * steps.now.count }
 {
-    let count = steps.count;
     let mut end = at;
-    for k in 0..count {
+    for k in 0..steps.count {
         end = put_step(steps.step(k), end, text);
     }
     end
 }
 
-fn put_channels(list: ChannelList, at: usize, text: &mut [u8]) -> usize
-    requires { (list.count ≤ max_channels) × (at + Putting.channel_room * list.count ≤ length text.old) }
-    ensures put { Put (Text.channel_lines (channels list)) at text.old text.new result }
-    ensures room { result ≤ at + Putting.channel_room * list.count }
+fn put_channels(list: &ChannelList, at: usize, text: &mut [u8]) -> usize
+    requires { (list.now.count ≤ max_channels) × (at + Putting.channel_room * list.now.count ≤ length text.old) }
+    ensures put { Put (Text.channel_lines (channels list.now)) at text.old text.new result }
+    ensures room { result ≤ at + Putting.channel_room * list.now.count }
 {
-    let count = list.count;
     let mut end = at;
-    for k in 0..count {
-        let c = entry_of(&list.widths, &list.heights, &list.hshifts, &list.vshifts, k);
-        end = put_channel(c, end, text);
+    for k in 0..list.count {
+        end = put_channel(list.channel(k), end, text);
     }
     end
 }
 
-// The lines of a plan's steps and of the list that it leaves.
-fn put_plan(version: u32, steps: Steps, list: ChannelList, text: &mut [u8]) -> usize
-    requires { (is_version version ≡ true) × (steps.count ≤ max_steps) × (list.count ≤ max_channels) × (Putting.listing_room ≤ length text.old) }
-    ensures { Put (Spec.plan_text version (StepsSpec.steps steps) (channels list)) 0 text.old text.new result }
+// The lines of a plan's steps and of the list that it leaves, and the coarse count.
+fn put_plan(
+    steps: &Steps,
+    list: &ChannelList,
+    coarse: usize,
+    text: &mut [u8],
+) -> usize
+    requires { (steps.now.count ≤ max_steps) × (list.now.count ≤ max_channels) × (coarse ≤ max_channels) × (Putting.listing_room ≤ length text.old) }
+    ensures { Put (Spec.lines_text (StepsSpec.steps steps.now) (channels list.now) coarse) 0 text.old text.new result }
 {
     let end = put_numbered(b"steps ", steps.count, 0, text);
     let end = put_steps(steps, end, text);
     let end = put_numbered(b"channels ", list.count, end, text);
     let end = put_channels(list, end, text);
-    put_numbered(
-        b"coarse ",
-        plan::coarse_count(version, list).count,
-        end,
-        text,
-    )
+    put_numbered(b"coarse ", coarse, end, text)
 }
 
-// The lines of a list and its steps that are accepted.
-fn put_record(version: u32, list: ChannelList, steps: Steps, text: &mut [u8]) -> usize
-    requires { (judge_plan version list steps ≡ 0) × (Putting.listing_room ≤ length text.old) }
-    ensures { Put (Spec.record_text version (StepsSpec.steps steps) (channels list)) 0 text.old text.new result }
+// The listing of an accepted record over the front of a text that has room for every
+// listing; after a refusal the text is as it was.
+fn put_record(bytes: &[u8], text: &mut [u8]) -> Result<usize, Refusal>
+    requires { Putting.listing_room ≤ length text.old }
+    ensures judged { answer_of result ≡ read_answer bytes.now }
+    ensures put { IfOk result (λ end. Put (Spec.listing bytes.now) 0 text.old text.new end) }
+    ensures kept { OnErr result (text.new ≡ text.old) }
 {
-    let reached = plan::rewrite(version, list, steps).list;
-    let meant = plan::meant_steps(version, list, steps).steps;
-    put_plan(version, meant, reached, text)
+    let form = record::read_form(bytes)?;
+    let reached = form.rewrite()?;
+    let meant = form.meant_steps()?;
+    let coarse = plan::coarse_count(form.version, &reached)?;
+    Ok(put_plan(&meant, &reached, coarse, text))
 }
 
 fn put_listing(bytes: &[u8], text: &mut [u8]) -> usize
     requires { Putting.listing_room ≤ length text.old }
     ensures { Put (Spec.listing bytes.now) 0 text.old text.new result }
 {
-    let read = record::read_record(bytes);
-    if read.answer != 0 {
-        return put_numbered(b"refused ", read.answer as usize, 0, text);
+    match put_record(bytes, text) {
+        Ok(end) => end,
+        Err(refusal) => put_numbered(b"refused ", refusal.number() as usize, 0, text),
     }
-    put_record(read.version, read.list, read.steps, text)
 }
 
 // The listing of an accepted record over the front of `text`, and its length as
 // the first of `size`; the rest of both stays. A text of `LISTING_ROOM` bytes has
 // room for every listing.
-pub fn list_record(bytes: &[u8], text: &mut [u8], size: &mut [u32]) -> u32
-    ensures { (result ≡ Spec.list_answer bytes.now text.old size.old) × (text.new ≡ Spec.text_after bytes.now text.old size.old) × (size.new ≡ Spec.size_after bytes.now text.old size.old) }
+pub fn list_record(bytes: &[u8], text: &mut [u8], size: &mut [u32]) -> Result<(), Refusal>
+    ensures { (answer_of result ≡ Spec.list_answer bytes.now text.old size.old) × (text.new ≡ Spec.text_after bytes.now text.old size.old) × (size.new ≡ Spec.size_after bytes.now text.old size.old) }
 {
-    let read = record::read_record(bytes);
-    if read.answer != 0 {
-        return read.answer;
-    }
     let mut page = [0u8; LISTING_ROOM];
-    let length = put_record(read.version, read.list, read.steps, &mut page);
+    let length = put_record(bytes, &mut page)?;
     if !((length <= text.len()) & (1 <= size.len())) {
-        return REFUSED_LENGTH;
+        return Err(Refusal::Length);
     }
     put_word(&page[..length], 0, text);
     size[0] = length as u32;
-    0
+    Ok(())
 }
 
 // What the program prints for the bytes of its input, over the front of `text`;

@@ -13,7 +13,7 @@ use Rattle.list.specs.declared.ChannelList.{ChannelList}
 use Rattle.list.specs.Tables.{map}
 use Rattle.list.specs.Questions.{ask}
 use Rattle.plan.specs.declared.Steps.{Steps}
-use Rattle.record.specs.declared.Written.{Written}
+use Rattle.record.specs.Told.{Written}
 use Rattle.record.specs.Bytes.{record_room}
 use Rattle.record.specs.Records as W
 use Rattle.record.specs.Records.{record_for, write_answer, written_of, written_bytes}

@@ -159,3 +159,8 @@ pub coarse_is : (version : ℕ) (l : ChannelList) → is_version version ≡ tru
     → r.count ≡ coarse_count (rule_of version).stop (channels l)
 unfolding coarse_of
 coarse_is version l v r e = ap (λ (x : CoarseCount). x.count) e ∙ rw v
+
+-- a known version is not refused
+pub coarse_accepted : (version : ℕ) (l : ChannelList) → is_version version ≡ true → (r : CoarseCount) → r ≡ coarse_of version l → r.answer ≡ 0
+unfolding coarse_of
+coarse_accepted version l v r e = ap (λ (x : CoarseCount). x.answer) e ∙ rw v

@@ -22,7 +22,7 @@ use Rattle.plan.specs.Version.{is_version}
 use Rattle.plan.specs.Plans as Plans
 use Rattle.plan.specs.Plans.{judge_form, judge_meant, judge_plan, judge_steps, stepped_all, origins_left, list_left, meant, rewritten, judge_meaning, meant_steps}
 use Rattle.plan.proofs.Runs.{none_refused, origins_left_lem}
-use Rattle.plan.proofs.Answers.{steps_length, form_accepted, plan_meaning, meaning_steps, outcome_answer, rewritten_accepted}
+use Rattle.plan.proofs.Answers.{steps_length, form_accepted, plan_meaning, meaning_answer, meaning_steps, outcome_answer, rewritten_accepted}
 
 module _ (version : ℕ) (l : ChannelList) (s : Steps) where
   -- r is what `rewrite` gave
@@ -56,6 +56,10 @@ module _ (version : ℕ) (l : ChannelList) (s : Steps) where
 
     meaning : (judge_meaning version l s ≡ 0) × (judge_steps (meant version (steps s) (channels l)) (channels l) ≡ 0)
     meaning = none_refused (judge_meaning version l s) _ (sym (plan_meaning version l s) ∙ ok)
+
+    -- p is what `meant_steps` gave: it is no refusal
+    pub meant_accepted : (p : Planned) → p ≡ meant_steps version l s → p.answer ≡ 0
+    meant_accepted p e = meaning_answer version l s p e ∙ meaning.0
 
     -- the steps that are meant are accepted
     pub meant_judged : judge_steps (meant version (steps s) (channels l)) (channels l) ≡ 0

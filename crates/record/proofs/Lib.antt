@@ -12,3 +12,5 @@ pub mod Words
 pub mod ReadWritten
 pub mod RecordOf
 pub mod WrittenRead
+pub mod Parts
+pub mod Reached

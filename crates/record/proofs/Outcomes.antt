@@ -19,7 +19,7 @@ use Rattle.plan.specs.declared.Steps.{Steps}
 use Rattle.plan.specs.Version.{standard_version, house_version}
 use Rattle.plan.specs.Steps as S
 use Rattle.plan.specs.Plans.{judge_plan, rewritten}
-use Rattle.record.specs.declared.Record.{Record}
+use Rattle.record.specs.Told.{Record}
 use Rattle.record.specs.Bytes.{strip_size, step_size, version_size, step_field, version_field, channel_fields, step_fields, list_fields, record_of, placed}
 use Rattle.record.specs.Reading.{Form, refused, fields_of, has_version_tag, judge_version_field, form_of}
 use Rattle.record.specs.Records.{packed_form, read_answer, read_of, record_for, write_answer, written_of, written_bytes}

@@ -48,13 +48,30 @@ module _ (out : List ℕ) (at : ℕ) (xs : List ℕ) where
   unfolding put_bytes
   put_placed h = rw (le-leb (at + length xs) (length out) h)
 
-  pub put_field : at + length xs ≤ length out → (out' field : List ℕ) (size : ℕ) → field ≡ xs → length field ≡ size → out' ≡ put_bytes out at field
-      → (at + size ≡ at + length xs) × (out' ≡ placed out at xs)
-  put_field h out' field size ef es eo = (omega (arith, ap length ef), eo ∙ rw ef (put_placed h))
-
   pub put_nothing : length out < at + length xs → out ≡ put_bytes out at xs
   unfolding put_bytes
   put_nothing h = rw (lt-leb (at + length xs) (length out) h)
+
+-- four parts put one after the other
+module _ (out : List ℕ) (at : ℕ) where
+  put_after : (xs ys o o' : List ℕ) (at' : ℕ) → at + length xs + length ys ≤ length out → at' ≡ at + length xs
+      → o ≡ placed out at xs → o' ≡ put_bytes o at' ys → o' ≡ placed out at (xs ++ ys)
+  put_after xs ys o o' at' room ea eo eo' =
+      let fits : at + length xs ≤ length out = omega arith in
+      let n = placed_length out at xs fits in
+      eo' ∙ rw (eo, ea) (put_placed (placed out at xs) (at + length xs) ys (omega arith) ∙ placed_more out at xs fits ys)
+
+  pub four_put : (a b c d o1 o2 o3 o4 : List ℕ) (p2 p3 p4 : ℕ) → at + length a + length b + length c + length d ≤ length out
+      → p2 ≡ at + length a → p3 ≡ p2 + length b → p4 ≡ p3 + length c
+      → o1 ≡ put_bytes out at a → o2 ≡ put_bytes o1 p2 b → o3 ≡ put_bytes o2 p3 c → o4 ≡ put_bytes o3 p4 d
+      → o4 ≡ placed out at (((a ++ b) ++ c) ++ d)
+  four_put a b c d o1 o2 o3 o4 p2 p3 p4 room e2 e3 e4 h1 h2 h3 h4 =
+      let m = length-append a b in
+      let n = length-append (a ++ b) c in
+      let q1 : o1 ≡ placed out at a = h1 ∙ put_placed out at a (omega arith) in
+      let q2 : o2 ≡ placed out at (a ++ b) = put_after a b o1 o2 p2 (omega arith) e2 q1 h2 in
+      let q3 : o3 ≡ placed out at ((a ++ b) ++ c) = put_after (a ++ b) c o2 o3 p3 (omega arith) (omega arith) q2 h3 in
+      put_after ((a ++ b) ++ c) d o3 o4 p4 (omega arith) (omega arith) q3 h4
 
 -- n fields, those of f, give `whole`; k of them lie from `start` to `at`
 pub record Counting {ℓ} {A : Type ℓ} (field : A → List ℕ) (f : ℕ → A) (n : ℕ) (whole : List ℕ) (start at k : ℕ) : Type ℓ where

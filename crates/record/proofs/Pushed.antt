@@ -1,10 +1,11 @@
--- One channel more, in the arrays that hold a list (specs/Adding.antt) and in "meta channels first". Assumes nothing.
+-- One channel more, in the arrays that hold a list and in "meta channels first". Assumes nothing.
 use mathlib.Core.Path.{◌≡◌, refl, sym, ap, ◌∙◌}
 use mathlib.Core.Bool.{Bool, true, false, ◌&&◌, ◌||◌, not, and-true, and_assoc, and-eq-true_iff, false≢true}
 use mathlib.Core.List.{List, [], ◌∷◌, ◌++◌}
 use Prim.Native.Nat.{ℕ, ◌+◌, ◌<◌}
 use native.Mathlib.Omega.{arith}
 use lib.ListN.{length, set, length-append}
+use borrow.Author.Tests.{lt-ltb}
 use Rattle.channel.specs.declared.Channel.{Channel}
 use Rattle.channel.specs.Channel.{is_meta, is_allowed}
 use Rattle.list.specs.Tables.{padded, map, all}
@@ -14,7 +15,6 @@ use Rattle.list.proofs.Channels.{own_length, own_snoc}
 use Rattle.list.proofs.Maps.{map_length}
 use Rattle.plan.proofs.Packed.{padded_snoc}
 use Rattle.record.specs.Reading.{channel_allowed}
-use Rattle.record.specs.Adding.{with_channel}
 
 map_snoc {ℓ κ} : {A : Type ℓ} {B : Type κ} (f : A → B) (xs : List A) (x : A) → map f (xs ++ x ∷ []) ≡ map f xs ++ f x ∷ []
 map_snoc f [] x = refl
@@ -51,18 +51,19 @@ own_pushed n h =
     ∙ padded_snoc max_channels (own_positions n) n (omega arith)
     ∙ ap (padded max_channels) (sym (own_snoc n))
 
-pub list_pushed : (cs : List Channel) (c : Channel) → length cs < max_channels → with_channel (Lists.packed cs) c ≡ Lists.packed (cs ++ c ∷ [])
-unfolding with_channel Lists.holding
+pub list_pushed : (cs : List Channel) (c : Channel) → length cs < max_channels → Lists.pushed (Lists.packed cs) c (length cs) ≡ Lists.packed (cs ++ c ∷ [])
+unfolding Lists.pushed Lists.holding
 list_pushed cs c h =
     let n : length cs + 1 ≡ length (cs ++ c ∷ []) = rw length-append in
-    λ i. record {
+    rw (lt-ltb (length cs) max_channels h)
+    (λ i. record {
       count = n i;
       widths = entry_pushed (λ (d : Channel). d.width) cs c h i;
       heights = entry_pushed (λ (d : Channel). d.height) cs c h i;
       hshifts = entry_pushed (λ (d : Channel). d.hshift) cs c h i;
       vshifts = entry_pushed (λ (d : Channel). d.vshift) cs c h i;
       origins = (own_pushed (length cs) h ∙ ap (λ (m : ℕ). padded max_channels (own_positions m)) n) i;
-    }
+    })
 
 pub list_count : (cs : List Channel) → (Lists.packed cs).count ≡ length cs
 unfolding Lists.holding

@@ -25,7 +25,7 @@ use Rattle.plan.specs.Version.{standard_version, house_version, is_version}
 use Rattle.plan.specs.Steps as S
 use Rattle.plan.specs.Plans as P
 use Rattle.plan.specs.Plans.{judge_steps, judge_meant, judge_plan}
-use Rattle.record.specs.declared.Record.{Record}
+use Rattle.record.specs.Told.{Record}
 use Rattle.record.specs.Bytes.{version_tag, version_length, head_length, low, high, max_short_side, is_strip, short_field, strip_field, channel_field, step_field, version_field, channel_fields, step_fields, list_fields, record_of}
 use Rattle.record.specs.Reading.{field_size, field_channel, field_step, field_inside, has_head, is_channel, is_step, channel_allowed, tag_allowed, judge_channel_field, judge_step_field, judge_field, answer_of, read_fields, fields_of, has_version_tag, judge_version_field, form_of}
 use Rattle.record.specs.Records.{read_answer, read_of, record_for}

@@ -21,7 +21,7 @@ use Rattle.plan.proofs.Runs.{none_refused}
 use Rattle.plan.proofs.Packed.{packed_count, steps_packed}
 use Rattle.plan.proofs.Judged.{judged_list, judged_counts, meant_judged}
 use Rattle.plan.proofs.Longest.{meant_few}
-use Rattle.record.specs.declared.Record.{Record}
+use Rattle.record.specs.Told.{Record}
 use Rattle.record.specs.Reading.{form_of}
 use Rattle.record.specs.Records as R
 use Rattle.record.specs.Records.{read_answer, read_of, version_of, channels_of, steps_of}

@@ -13,7 +13,7 @@ use Rattle.plan.specs.Steps.{steps}
 use Rattle.plan.specs.Plans.{judge_plan, meant, stepped_all}
 use Rattle.plan.proofs.Packed.{packed_count, steps_packed}
 use Rattle.plan.proofs.Judged.{judged_counts}
-use Rattle.record.specs.declared.Record.{Record}
+use Rattle.record.specs.Told.{Record}
 use Rattle.record.specs.Bytes.{record_of}
 use Rattle.record.specs.Reading.{Form, form_of}
 use Rattle.record.specs.Records.{read_answer, version_of, reached_of}

@@ -19,7 +19,7 @@ use Rattle.plan.specs.Version.{standard_version, house_version}
 use Rattle.plan.specs.Steps as S
 use Rattle.plan.specs.Plans.{judge_plan}
 use Rattle.plan.proofs.Packed.{packed_count, steps_packed}
-use Rattle.record.specs.declared.Record.{Record}
+use Rattle.record.specs.Told.{Record}
 use Rattle.record.specs.Bytes.{version_size, channel_field, step_field, version_field, channel_fields, step_fields, list_fields, record_of}
 use Rattle.record.specs.Reading.{Form, asked, field_size, field_channel, field_step, is_step, finished, answer_of, read_fields, fields_of, has_version_tag, judge_version_field, form_of}
 use Rattle.record.specs.Records.{read_answer, read_of, record_for, write_answer}

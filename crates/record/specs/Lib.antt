@@ -1,6 +1,7 @@
 pub mod Bytes
 pub mod Reading
 pub mod Inside
-pub mod Adding
+pub mod Sides
+pub mod Told
 pub mod Records
 pub mod Laws

@@ -12,8 +12,7 @@ use Rattle.plan.specs.declared.Steps.{Steps}
 use Rattle.plan.specs.Steps as S
 use Rattle.plan.specs.Steps.{steps}
 use Rattle.plan.specs.Plans.{meant, stepped_all, origins_left, judge_plan}
-use Rattle.record.specs.declared.Record.{Record}
-use Rattle.record.specs.declared.Written.{Written}
+use Rattle.record.specs.Told.{Record, Written}
 use Rattle.record.specs.Bytes.{record_of}
 use Rattle.record.specs.Reading.{Form, form_of}
 

@@ -8,7 +8,7 @@ use lib.Dec.{eqb}
 use lib.IntN.{ℤ}
 use borrow.Author.Tests.{ne_eqb, eqb-true, eqb-false}
 use Rattle.plan.specs.Plans.{judge_plan}
-use Rattle.record.specs.declared.Record.{Record}
+use Rattle.record.specs.Told.{Record}
 use Rattle.record.specs.Reading.{form_of}
 use Rattle.record.specs.Records.{packed_form, read_answer, read_of}
 use Rattle.record.proofs.Outcomes.{read_refused, form_judged, form_read}

@@ -2,22 +2,11 @@
 use mathlib.Core.Path.{◌≡◌, refl}
 use mathlib.Core.List.{List, [], ◌∷◌}
 use Prim.Native.Nat.{ℕ}
-use native.Mathlib.Omega.{arith}
-use lib.ListN.{length, set}
+use lib.ListN.{length}
 use borrow.Author.Tests.{ne_eqb}
 use Rattle.channel.specs.declared.Channel.{Channel}
-use Rattle.rect.specs.declared.GridRect.{GridRect}
-use Rattle.rect.specs.Rect.{rect_of}
+use Rattle.rect.specs.Rect.{GridRect, rect_of}
 use Rattle.squeeze.specs.GridRect.{answer, numbers_after}
-
--- a slice of four numbers, each written
-four_set : (ns : List ℕ) (a b c d : ℕ) → length ns ≡ 4 → set (set (set (set ns 0 a) 1 b) 2 c) 3 d ≡ a ∷ b ∷ c ∷ d ∷ []
-four_set [] a b c d h = absurd (omega (arith, h))
-four_set (p ∷ []) a b c d h = absurd (omega (arith, h))
-four_set (p ∷ (q ∷ [])) a b c d h = absurd (omega (arith, h))
-four_set (p ∷ (q ∷ (r ∷ []))) a b c d h = absurd (omega (arith, h))
-four_set (p ∷ (q ∷ (r ∷ (s ∷ [])))) a b c d h = refl
-four_set (p ∷ (q ∷ (r ∷ (s ∷ (t ∷ ns))))) a b c d h = absurd (omega (arith, h))
 
 -- f is what `get_grid_rect` gave
 module _ (c : Channel) (output stored group gx gy : ℕ) (f : GridRect) (e : f ≡ rect_of c output stored group gx gy) (ns : List ℕ) where
@@ -32,6 +21,6 @@ module _ (c : Channel) (output stored group gx gy : ℕ) (f : GridRect) (e : f �
 
     pub rect_done : length ns ≡ 4
         → (0 ≡ answer c output stored group gx gy ns)
-        × (set (set (set (set ns 0 f.x) 1 f.y) 2 f.width) 3 f.height ≡ numbers_after c output stored group gx gy ns)
+        × (f.x ∷ f.y ∷ f.width ∷ f.height ∷ [] ≡ numbers_after c output stored group gx gy ns)
     unfolding answer numbers_after
-    rect_done h = rw (← e, z, h) (refl, four_set ns f.x f.y f.width f.height h)
+    rect_done h = rw (← e, z, h) (refl, refl)

@@ -4,8 +4,7 @@ use Rattle.std.specs.Prelude.{cond, List, [], ◌∷◌, ℕ, eqb, length}
 use Rattle.numbers.specs.Numbers.{refused_length}
 use Rattle.channel.specs.declared.Channel.{Channel}
 use Rattle.list.specs.Questions.{ask}
-use Rattle.rect.specs.declared.GridRect.{GridRect}
-use Rattle.rect.specs.Rect.{rect_of}
+use Rattle.rect.specs.Rect.{GridRect, rect_of}
 
 abbrev pub channel : ℕ → ℕ → ℕ → ℕ → Channel
 channel width height hshift vshift = record { width = width; height = height; hshift = hshift; vshift = vshift }

@@ -1,8 +1,6 @@
-// What the C functions do (document 01, "The entry"; `squeeze_c` exports them), a
-// module for each family: whole runs over a record, tiles, and channel lists.
-// Total: every question that concerns the call in document 01's order, slice
-// lengths last. The answer is 0 or the refusal's number; after a refusal every
-// slice is as it was.
+// What the C functions do (`squeeze_c` exports them), a module for each family: whole
+// runs over a record, tiles, and channel lists. Total: every question that concerns
+// the call in its order, slice lengths last; after a refusal every slice is as it was.
 #![tactic(auto)]
 
 pub mod lists;

@@ -1,14 +1,17 @@
 // Channel lists and their steps: a record's listing and its layout as numbers,
 // and a record from numbers.
 ghost use Rattle.std.specs.Prelude.{◌≡◌};
+ghost use Rattle.numbers.specs.Numbers.{answer_of};
 ghost use Rattle.layout.specs.Layout as Layout;
 ghost use Rattle.listing.specs.Listing as Listing;
 ghost use Rattle.numbered.specs.Numbered as Numbered;
 
+use numbers::Refusal;
+
 // The listing of the record as text, over the front of `text`, and its length as
 // the first of `size`.
-pub fn squeeze_listing(bytes: &[u8], text: &mut [u8], size: &mut [u32]) -> u32
-    ensures { (result ≡ Listing.list_answer bytes.now text.old size.old) × (text.new ≡ Listing.text_after bytes.now text.old size.old) × (size.new ≡ Listing.size_after bytes.now text.old size.old) }
+pub fn squeeze_listing(bytes: &[u8], text: &mut [u8], size: &mut [u32]) -> Result<(), Refusal>
+    ensures { (answer_of result ≡ Listing.list_answer bytes.now text.old size.old) × (text.new ≡ Listing.text_after bytes.now text.old size.old) × (size.new ≡ Listing.size_after bytes.now text.old size.old) }
 {
     listing::list_record(bytes, text, size)
 }
@@ -23,8 +26,8 @@ pub fn squeeze_layout(
     steps: &mut [u32],
     channels: &mut [u32],
     origins: &mut [u32],
-) -> u32
-    ensures { (result ≡ Layout.answer bytes.now (Layout.rows counts.old steps.old channels.old origins.old)) × (Layout.rows counts.new steps.new channels.new origins.new ≡ Layout.after bytes.now (Layout.rows counts.old steps.old channels.old origins.old)) }
+) -> Result<(), Refusal>
+    ensures { (answer_of result ≡ Layout.answer bytes.now (Layout.rows counts.old steps.old channels.old origins.old)) × (Layout.rows counts.new steps.new channels.new origins.new ≡ Layout.after bytes.now (Layout.rows counts.old steps.old channels.old origins.old)) }
 {
     layout::layout_of(bytes, counts, steps, channels, origins)
 }
@@ -37,8 +40,8 @@ pub fn squeeze_record(
     steps: &[u32],
     bytes: &mut [u8],
     size: &mut [u32],
-) -> u32
-    ensures { (result ≡ Numbered.answer version channels.now steps.now bytes.old size.old) × (bytes.new ≡ Numbered.record_after version channels.now steps.now bytes.old size.old) × (size.new ≡ Numbered.length_after version channels.now steps.now bytes.old size.old) }
+) -> Result<(), Refusal>
+    ensures { (answer_of result ≡ Numbered.answer version channels.now steps.now bytes.old size.old) × (bytes.new ≡ Numbered.record_after version channels.now steps.now bytes.old size.old) × (size.new ≡ Numbered.length_after version channels.now steps.now bytes.old size.old) }
 {
     numbered::record_of_numbers(version, channels, steps, bytes, size)
 }

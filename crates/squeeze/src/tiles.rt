@@ -1,11 +1,13 @@
 // Tiles: one tile of an inverse squeeze, and the rectangle of a channel at a grid
-// position.
+// position, over numbers as C has them.
 ghost use Rattle.std.specs.Prelude.{◌≡◌};
+ghost use Rattle.numbers.specs.Numbers.{answer_of};
 ghost use Rattle.tile.specs.Call as Call;
 ghost use Rattle.squeeze.specs.GridRect as GridRect;
 
 use channel::Channel;
-use numbers::REFUSED_LENGTH;
+use numbers::Refusal;
+use tile::Sides;
 
 // x, y, width and height.
 const RECT_NUMBERS: usize = 4;
@@ -25,12 +27,22 @@ pub fn squeeze_tile<'a>(
     next: &'a [i32],
     prev: &'a [i32],
     out: &mut [i32],
-) -> u32
-    ensures { (result ≡ Call.answer (Call.call horizontal aw ah rw rh ow oh avg.now res.now next.now prev.now out.old)) × (out.new ≡ Call.after (Call.call horizontal aw ah rw rh ow oh avg.now res.now next.now prev.now out.old)) }
+) -> Result<(), Refusal>
+    ensures { (answer_of result ≡ Call.answer (Call.call horizontal aw ah rw rh ow oh avg.now res.now next.now prev.now out.old)) × (out.new ≡ Call.after (Call.call horizontal aw ah rw rh ow oh avg.now res.now next.now prev.now out.old)) }
 {
-    tile::squeeze_tile(
-        horizontal, aw, ah, rw, rh, ow, oh, avg, res, next, prev, out,
-    )
+    let a = Sides {
+        width: aw,
+        height: ah,
+    };
+    let r = Sides {
+        width: rw,
+        height: rh,
+    };
+    let o = Sides {
+        width: ow,
+        height: oh,
+    };
+    tile::squeeze_tile(horizontal != 0, a, r, o, avg, res, next, prev, out)
 }
 
 // The rectangle of a channel at a grid position: x, y, width and height.
@@ -45,8 +57,8 @@ pub fn squeeze_grid_rect(
     gx: u16,
     gy: u16,
     numbers: &mut [u32],
-) -> u32
-    ensures { (result ≡ GridRect.answer (GridRect.channel width height hshift vshift) output stored group gx gy numbers.old) × (numbers.new ≡ GridRect.numbers_after (GridRect.channel width height hshift vshift) output stored group gx gy numbers.old) }
+) -> Result<(), Refusal>
+    ensures { (answer_of result ≡ GridRect.answer (GridRect.channel width height hshift vshift) output stored group gx gy numbers.old) × (numbers.new ≡ GridRect.numbers_after (GridRect.channel width height hshift vshift) output stored group gx gy numbers.old) }
 {
     let channel = Channel {
         width,
@@ -54,16 +66,10 @@ pub fn squeeze_grid_rect(
         hshift,
         vshift,
     };
-    let found = rect::get_grid_rect(channel, output, stored, group, gx, gy);
-    if found.answer != 0 {
-        return found.answer;
-    }
+    let found = rect::get_grid_rect(channel, output, stored, group, gx, gy)?;
     if numbers.len() != RECT_NUMBERS {
-        return REFUSED_LENGTH;
+        return Err(Refusal::Length);
     }
-    numbers[0] = found.x;
-    numbers[1] = found.y;
-    numbers[2] = found.width;
-    numbers[3] = found.height;
-    0
+    numbers.copy_from_slice(&[found.x, found.y, found.width, found.height]);
+    Ok(())
 }

@@ -1,6 +1,6 @@
 // The functions of the library `squeeze` under their C names, in its modules: each
-// export calls the function of its name and states its clauses again. It has no
-// code of its own beside these calls.
+// export calls the function of its name, answers 0 or the refusal's number, and states
+// the clauses again of that number.
 #![tactic(auto)]
 
 pub mod lists;

@@ -5,11 +5,13 @@ ghost use Rattle.layout.specs.Layout as Layout;
 ghost use Rattle.listing.specs.Listing as Listing;
 ghost use Rattle.numbered.specs.Numbered as Numbered;
 
+use numbers::answer_of;
+
 #[unsafe(no_mangle)]
 pub extern "C" fn squeeze_listing(bytes: &[u8], text: &mut [u8], size: &mut [u32]) -> u32
     ensures { (result ≡ Listing.list_answer bytes.now text.old size.old) × (text.new ≡ Listing.text_after bytes.now text.old size.old) × (size.new ≡ Listing.size_after bytes.now text.old size.old) }
 {
-    squeeze::lists::squeeze_listing(bytes, text, size)
+    answer_of(squeeze::lists::squeeze_listing(bytes, text, size))
 }
 
 #[unsafe(no_mangle)]
@@ -22,7 +24,7 @@ pub extern "C" fn squeeze_layout(
 ) -> u32
     ensures { (result ≡ Layout.answer bytes.now (Layout.rows counts.old steps.old channels.old origins.old)) × (Layout.rows counts.new steps.new channels.new origins.new ≡ Layout.after bytes.now (Layout.rows counts.old steps.old channels.old origins.old)) }
 {
-    squeeze::lists::squeeze_layout(bytes, counts, steps, channels, origins)
+    answer_of(squeeze::lists::squeeze_layout(bytes, counts, steps, channels, origins))
 }
 
 #[unsafe(no_mangle)]
@@ -35,5 +37,5 @@ pub extern "C" fn squeeze_record(
 ) -> u32
     ensures { (result ≡ Numbered.answer version channels.now steps.now bytes.old size.old) × (bytes.new ≡ Numbered.record_after version channels.now steps.now bytes.old size.old) × (size.new ≡ Numbered.length_after version channels.now steps.now bytes.old size.old) }
 {
-    squeeze::lists::squeeze_record(version, channels, steps, bytes, size)
+    answer_of(squeeze::lists::squeeze_record(version, channels, steps, bytes, size))
 }

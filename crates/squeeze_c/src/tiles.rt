@@ -4,6 +4,8 @@ ghost use Rattle.std.specs.Prelude.{◌≡◌};
 ghost use Rattle.tile.specs.Call as Call;
 ghost use Rattle.squeeze.specs.GridRect as GridRect;
 
+use numbers::answer_of;
+
 #[unsafe(no_mangle)]
 pub extern "C" fn squeeze_tile<'a>(
     horizontal: u32,
@@ -21,9 +23,9 @@ pub extern "C" fn squeeze_tile<'a>(
 ) -> u32
     ensures { (result ≡ Call.answer (Call.call horizontal aw ah rw rh ow oh avg.now res.now next.now prev.now out.old)) × (out.new ≡ Call.after (Call.call horizontal aw ah rw rh ow oh avg.now res.now next.now prev.now out.old)) }
 {
-    squeeze::tiles::squeeze_tile(
+    answer_of(squeeze::tiles::squeeze_tile(
         horizontal, aw, ah, rw, rh, ow, oh, avg, res, next, prev, out,
-    )
+    ))
 }
 
 #[unsafe(no_mangle)]
@@ -41,7 +43,7 @@ pub extern "C" fn squeeze_grid_rect(
 ) -> u32
     ensures { (result ≡ GridRect.answer (GridRect.channel width height hshift vshift) output stored group gx gy numbers.old) × (numbers.new ≡ GridRect.numbers_after (GridRect.channel width height hshift vshift) output stored group gx gy numbers.old) }
 {
-    squeeze::tiles::squeeze_grid_rect(
+    answer_of(squeeze::tiles::squeeze_grid_rect(
         width, height, hshift, vshift, output, stored, group, gx, gy, numbers,
-    )
+    ))
 }

@@ -3,6 +3,8 @@
 ghost use Rattle.std.specs.Prelude.{◌≡◌};
 ghost use Rattle.squeeze.specs.Entry as Entry;
 
+use numbers::answer_of;
+
 #[unsafe(no_mangle)]
 pub extern "C" fn squeeze_rebuild(
     bytes: &[u8],
@@ -12,7 +14,7 @@ pub extern "C" fn squeeze_rebuild(
 ) -> u32
     ensures { (result ≡ Entry.answer bytes.now pyramid.now picture.old work.old) × (picture.new ≡ Entry.picture_of bytes.now pyramid.now picture.old work.old) × (work.new ≡ Entry.work_of bytes.now pyramid.now picture.old work.old) }
 {
-    squeeze::whole_runs::squeeze_rebuild(bytes, pyramid, picture, work)
+    answer_of(squeeze::whole_runs::squeeze_rebuild(bytes, pyramid, picture, work))
 }
 
 #[unsafe(no_mangle)]
@@ -24,5 +26,5 @@ pub extern "C" fn squeeze_write(
 ) -> u32
     ensures { (result ≡ Entry.answer bytes.now picture.now pyramid.old work.old) × (pyramid.new ≡ Entry.pyramid_of bytes.now picture.now pyramid.old work.old) × (work.new ≡ Entry.work_of bytes.now picture.now pyramid.old work.old) }
 {
-    squeeze::whole_runs::squeeze_write(bytes, picture, pyramid, work)
+    answer_of(squeeze::whole_runs::squeeze_write(bytes, picture, pyramid, work))
 }

@@ -7,7 +7,7 @@ use Rattle.record.proofs.Placed.{Counting}
 use Rattle.record.proofs.channels_size.Given as goal
 
 abbrev pub invariant-loop-k : goal.invariant-loop-k
-invariant-loop-k l = Counting channel_field (channel_at l.list) l.count (channel_fields (channels l.list)) 0 l.size l.k
+invariant-loop-k l = Counting channel_field (channel_at l.list) l.k-end (channel_fields (channels l.list)) 0 l.size l.k
 
 abbrev pub decreases-loop-k : goal.decreases-loop-k
-decreases-loop-k l = l.count - l.k
+decreases-loop-k l = l.k-end - l.k

@@ -1,14 +1,23 @@
 -- `read_record` meets its contract: the form's answer, then the plan's (proofs/Outcomes.antt). Assumes nothing.
+use Rattle.std.proofs.Common.{rules, Err, ◌≡◌, ◌∙◌, refl}
+use Rattle.numbers.proofs.Refusals.{number_some}
+use Rattle.record.specs.Records.{packed_form}
+use Rattle.record.specs.Told.{record_told}
 use Rattle.record.proofs.Outcomes.{read_refused, read_refused_plan, read_accepted}
 use Rattle.record.proofs.read_record.Goals as goal
 
-pub returns-then-form-ne0 : goal.returns-then-form-ne0
-returns-then-form-ne0 c = read_refused _ _ c.read_form-form.ensures c.if-form-ne0.true
+pub returns-in_err-read : goal.returns-in_err-read
+returns-in_err-read c =
+    let r = c.in_err-read.field-0.0 in
+    let e : record_told c.from_residual.result ≡ record_told (Err r) = search rules in
+    e ∙ read_refused _ _ c.in_err-read.ensures (number_some r)
 
-pub returns-then-answer-ne0 : goal.returns-then-answer-ne0
-returns-then-answer-ne0 c =
-    read_refused_plan _ _ c.read_form-form.ensures c.if-form-ne0.false _ c.rewrite-answer.ensures _ c.if-answer-ne0.true c.refused.ensures
+pub returns-in_err-rewrite : goal.returns-in_err-rewrite
+unfolding packed_form
+returns-in_err-rewrite c =
+    let r = c.in_err-rewrite.field-0.0 in
+    let e : record_told c.from_residual-in_err-rewrite.result ≡ record_told (Err r) = search rules in
+    read_refused_plan _ _ c.in_ok-read.ensures refl _ c.in_err-rewrite.ensures _ (number_some r) e
 
 pub returns : goal.returns
-returns c =
-    read_accepted _ _ c.read_form-form.ensures c.if-form-ne0.false _ c.rewrite-answer.ensures c.if-answer-ne0.false
+returns c = read_accepted _ _ c.in_ok-read.ensures refl _ c.in_ok-rewrite.ensures refl

@@ -8,48 +8,27 @@ use Rattle.list.proofs.Channels.{channels_all}
 use Rattle.record.specs.Bytes.{joined, channel_field}
 use Rattle.record.proofs.Placed.{putting_none, putting_length, putting_all, putting_room, putting_more}
 use Rattle.record.proofs.write_channels.Goals as goal
-use Rattle.record.proofs.write_channels.Lts as Lts
-use Rattle.record.proofs.write_channels.Reads as reads
-use Rattle.record.proofs.write_channels.Tie as tie
-
-abbrev After-entry_of-c : Type 0
-After-entry_of-c = Lts.After-entry_of tie.the-claims reads.Pre reads.Post goal.the-invariant-loop-k goal.the-decreases-loop-k
-
-abbrev In-loop-k : Type 0
-In-loop-k = Lts.In-loop tie.the-claims reads.Pre reads.Post goal.the-invariant-loop-k goal.the-decreases-loop-k
 
 pub loop-k-init : goal.loop-k-init
 loop-k-init c =
-    let g = c.args in
-    let n : g.list.count ≡ min g.list.count max_channels = omega (arith, c.requires.0) in
-    putting_none channel_field (channel_at g.list) _ _ _ _ (omega (arith, c.requires.1)) (ap (joined channel_field) (channels_all g.list g.list.count n))
-
--- the turn of the loop in which a channel was found
-abbrev turn : After-entry_of-c → In-loop-k
-turn c = c.before.before.before.before.before
-
--- the field that is put
-made : (c : After-entry_of-c)
-    → let q = (turn c) in
-    channel_field c.entry_of-c.result ≡ channel_field (channel_at q.args.list q.loop-k.k)
-made c = let q = (turn c) in ap channel_field {y = channel_at q.args.list q.loop-k.k} c.entry_of-c.ensures
+    let l = c.args.list.now in
+    let n : l.count ≡ min l.count max_channels = omega (arith, c.requires.0) in
+    putting_none channel_field (channel_at l) _ _ _ _ (omega (arith, c.requires.1)) (ap (joined channel_field) (channels_all l l.count n))
 
 pub put_channel-at-requires : goal.put_channel-at-requires
 put_channel-at-requires c =
-    let t = turn c.before in
-    putting_room channel_field (channel_at t.args.list) _ _ t.args.start _ t.requires.1
-    _ _ _ t.loop-k.invariant t.loop-k-test.true _ (made c.before)
+    putting_room channel_field (channel_at c.args.list.now) _ _ c.args.start _ c.requires.1
+    _ _ _ c.loop-k.invariant c.loop-k-test.true _ (ap channel_field c.channel.ensures)
 
 pub loop-k-preserved : goal.loop-k-preserved
 loop-k-preserved c =
-    let t = turn c.before.before.before.before.before in
-    putting_more channel_field (channel_at t.args.list) _ _ t.args.start _ t.requires.1
-    _ _ _ t.loop-k.invariant t.loop-k-test.true _ (made c.before.before.before.before.before) _ _ c.put_channel-at.ensures.1 c.put_channel-at.ensures.0
+    putting_more channel_field (channel_at c.args.list.now) _ _ c.args.start _ c.requires.1
+    _ _ _ c.loop-k.invariant c.loop-k-test.true _ (ap channel_field c.channel.ensures) _ _ c.put_channel-at.ensures.1 c.put_channel-at.ensures.0
 
 pub shape_of-out : goal.shape_of-out
 shape_of-out c =
-    putting_length channel_field (channel_at c.args.list) _ _ _ _ (omega (arith, c.requires.1)) _ _ _ c.loop-k.invariant
+    putting_length channel_field (channel_at c.args.list.now) _ _ _ _ (omega (arith, c.requires.1)) _ _ _ c.loop-k.invariant
 
 pub returns : goal.returns
 returns c =
-    putting_all channel_field (channel_at c.args.list) _ _ _ _ (omega (arith, c.requires.1)) _ _ _ c.loop-k.invariant c.loop-k-test.false
+    putting_all channel_field (channel_at c.args.list.now) _ _ _ _ (omega (arith, c.requires.1)) _ _ _ c.loop-k.invariant c.loop-k-test.false

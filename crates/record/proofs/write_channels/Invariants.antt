@@ -7,7 +7,7 @@ use Rattle.record.proofs.Placed.{Putting}
 use Rattle.record.proofs.write_channels.Given as goal
 
 abbrev pub invariant-loop-k : goal.invariant-loop-k
-invariant-loop-k l = Putting channel_field (channel_at l.list) l.count (channel_fields (channels l.list)) l.start l.initial.out l.out l.at l.k
+invariant-loop-k l = Putting channel_field (channel_at l.list) l.k-end (channel_fields (channels l.list)) l.start l.initial.out l.out l.at l.k
 
 abbrev pub decreases-loop-k : goal.decreases-loop-k
-decreases-loop-k l = l.count - l.k
+decreases-loop-k l = l.k-end - l.k

@@ -8,7 +8,7 @@ use Rattle.record.proofs.Placed.{Putting}
 use Rattle.record.proofs.write_steps.Given as goal
 
 abbrev pub invariant-loop-k : goal.invariant-loop-k
-invariant-loop-k l = Putting step_field (step_at l.steps) l.count (step_fields (S.steps l.steps)) l.start l.initial.out l.out l.at l.k
+invariant-loop-k l = Putting step_field (step_at l.steps) l.k-end (step_fields (S.steps l.steps)) l.start l.initial.out l.out l.at l.k
 
 abbrev pub decreases-loop-k : goal.decreases-loop-k
-decreases-loop-k l = l.count - l.k
+decreases-loop-k l = l.k-end - l.k
