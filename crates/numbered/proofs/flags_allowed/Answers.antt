@@ -2,11 +2,9 @@
 use Rattle.std.proofs.Common.{rules, tests, refl, arith, ◌≡◌, ◌∙◌, ◌-◌}
 use Rattle.std.proofs.lemmas.Iterator.{YieldsList-from_range}
 use Rattle.std.proofs.lemmas.Iterator.Search.{all_from_yields_List}
-use Rattle.list.proofs.Tables.{all_ranged}
 use Rattle.numbered.specs.Numbered as N
 use Rattle.plan.proofs.Flags.{three_ranged}
 use lib.Dec.{leb}
-use Rattle.plan.specs.Steps.{flags_allowed}
 use Rattle.numbered.specs.Numbered.{step_numbers, groups, flags_at}
 use Rattle.numbered.proofs.flags_allowed.Goals as goal
 

@@ -1,7 +1,6 @@
 -- `list_of` meets its contract: each turn pushes a channel and its position. Assumes nothing.
-use mathlib.Core.Path.{◌≡◌, refl, sym, ◌∙◌}
+use mathlib.Core.Path.{refl, ◌∙◌}
 use native.Mathlib.Omega.{arith}
-use borrow.Author.Rules.{rules}
 use lib.ListN.{length}
 use Rattle.list.specs.Lists as Lists
 use Rattle.list.specs.Lists.{own_positions}

@@ -1,5 +1,5 @@
 -- `steps_of` meets its contract: each turn pushes a step (proofs/Filling.antt). Assumes nothing.
-use mathlib.Core.Path.{◌≡◌, refl, sym, ◌∙◌}
+use mathlib.Core.Path.{refl}
 use native.Mathlib.Omega.{arith}
 use Rattle.plan.specs.Steps as S
 use Rattle.numbered.specs.Arrays.{held}
