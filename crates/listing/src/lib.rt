@@ -5,7 +5,6 @@
 ghost use Rattle.std.specs.Prelude.{◌≡◌, true, ◌+◌, ◌*◌, ◌%◌, ◌≤◌, length, IfOk, OnErr};
 ghost use Rattle.numbers.specs.Numbers.{answer_of};
 ghost use Rattle.list.specs.Lists.{max_channels, max_steps, channels};
-ghost use Rattle.plan.specs.Version.{is_version};
 ghost use Rattle.plan.specs.Steps as StepsSpec;
 ghost use Rattle.record.specs.Records.{read_answer};
 ghost use Rattle.listing.specs.Text as Text;
@@ -203,12 +202,7 @@ fn put_channels(list: &ChannelList, at: usize, text: &mut [u8]) -> usize
 }
 
 // The lines of a plan's steps and of the list that it leaves, and the coarse count.
-fn put_plan(
-    steps: &Steps,
-    list: &ChannelList,
-    coarse: usize,
-    text: &mut [u8],
-) -> usize
+fn put_plan(steps: &Steps, list: &ChannelList, coarse: usize, text: &mut [u8]) -> usize
     requires { (steps.now.count ≤ max_steps) × (list.now.count ≤ max_channels) × (coarse ≤ max_channels) × (Putting.listing_room ≤ length text.old) }
     ensures { Put (Spec.lines_text (StepsSpec.steps steps.now) (channels list.now) coarse) 0 text.old text.new result }
 {
