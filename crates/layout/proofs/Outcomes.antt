@@ -12,12 +12,10 @@ use Rattle.numbers.specs.Numbers.{refused_length}
 use Rattle.list.specs.declared.ChannelList.{ChannelList}
 use Rattle.list.specs.Lists.{max_channels, max_steps, channels, origins}
 use Rattle.list.proofs.Channels.{origins_length}
-use Rattle.plan.specs.Coarse.{CoarseCount}
 use Rattle.plan.specs.declared.Steps.{Steps}
 use Rattle.plan.specs.Steps as S
-use Rattle.plan.specs.Version.{is_version, rule_of}
-use Rattle.plan.specs.Coarse as Coarse
-use Rattle.plan.specs.Coarse.{coarse_count, coarse_of}
+use Rattle.plan.specs.Version.{rule_of}
+use Rattle.plan.specs.Coarse.{coarse_count}
 use Rattle.plan.proofs.Answers.{steps_length}
 use Rattle.plan.proofs.Coarse.{count_laws}
 use Rattle.plan.proofs.Counts.{counted_all}
@@ -59,19 +57,15 @@ module _ (version : ℕ) (s : Steps) (l : ChannelList) (few-steps : s.count ≤ 
   origin_count = omega (arith, origins_length l)
 
   -- the coarse count that was found
-  module _ (r : CoarseCount) (e : r ≡ coarse_of version l) (known : is_version version ≡ true) where
-    coarse_is : r.count ≡ coarse_count (rule_of version).stop (channels l)
-    unfolding Coarse.coarse_of
-    coarse_is = ap (λ (x : CoarseCount). x.count) e ∙ rw known
+  module _ (coarse : ℕ) (e : coarse ≡ coarse_count (rule_of version).stop (channels l)) where
+    pub coarse_few : coarse ≤ max_channels
+    coarse_few = omega (arith, e, (count_laws (rule_of version).stop (channels l)).counts.within, channel_count)
 
-    pub coarse_few : r.count ≤ max_channels
-    coarse_few = omega (arith, coarse_is, (count_laws (rule_of version).stop (channels l)).counts.within, channel_count)
-
-    pub counts_over : (out : List ℕ) → placed out 0 (version ∷ s.count ∷ l.count ∷ r.count ∷ []) ≡ over (counts_of version (S.steps s) (channels l)) out
+    pub counts_over : (out : List ℕ) → placed out 0 (version ∷ s.count ∷ l.count ∷ coarse ∷ []) ≡ over (counts_of version (S.steps s) (channels l)) out
     unfolding Layout.counts_of
     counts_over out =
-        let found = version ∷ s.count ∷ l.count ∷ r.count ∷ [] in
-        let e : found ≡ counts_of version (S.steps s) (channels l) = λ i. version ∷ step_count i ∷ channel_count i ∷ coarse_is i ∷ [] in
+        let found = version ∷ s.count ∷ l.count ∷ coarse ∷ [] in
+        let e : found ≡ counts_of version (S.steps s) (channels l) = λ i. version ∷ step_count i ∷ channel_count i ∷ e i ∷ [] in
         Fronts.placed_front out found ∙ ap (λ (xs : List ℕ). over xs out) e
 
   -- question 14, as the code asks it

@@ -52,8 +52,10 @@ fn put_steps(steps: &Steps, out: &mut [u32])
     requires { (steps.now.count ≤ max_steps) × (length (Spec.all_steps (StepsSpec.steps steps.now)) ≤ length out.old) }
     ensures { out.new ≡ Spec.over (Spec.all_steps (StepsSpec.steps steps.now)) out.old }
 {
+    let mut at = 0;
     for k in 0..steps.count {
-        put_numbers(&step_numbers(steps.step(k)), STEP_NUMBERS * k, out);
+        put_numbers(&step_numbers(steps.step(k)), at, out);
+        at += STEP_NUMBERS;
     }
 }
 
@@ -61,8 +63,10 @@ fn put_channels(list: &ChannelList, out: &mut [u32])
     requires { (list.now.count ≤ max_channels) × (length (Spec.all_channels (Lists.channels list.now)) ≤ length out.old) }
     ensures { out.new ≡ Spec.over (Spec.all_channels (Lists.channels list.now)) out.old }
 {
+    let mut at = 0;
     for k in 0..list.count {
-        put_numbers(&channel_numbers(list.channel(k)), CHANNEL_NUMBERS * k, out);
+        put_numbers(&channel_numbers(list.channel(k)), at, out);
+        at += CHANNEL_NUMBERS;
     }
 }
 

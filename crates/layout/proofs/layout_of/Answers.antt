@@ -1,80 +1,78 @@
 -- `layout_of` meets its contract: the record's refusal, the slices', or the rows of its layout over them (proofs/Read.antt, proofs/Outcomes.antt). Assumes
 -- nothing.
-use mathlib.Core.Path.{◌≡◌, sym, ap, ◌∙◌}
-use mathlib.Core.Bool.{Bool, true, false, ◌&&◌}
-use Prim.Native.Nat.{◌*◌}
+use Rattle.std.proofs.Common.{rules, ◌≡◌, ◌∙◌, refl, sym, ap}
 use native.Mathlib.Omega.{arith}
-use lib.Dec.{leb}
-use lib.ListN.{length}
+use Rattle.numbers.specs.Numbers.{answer_of, number_of}
+use Rattle.numbers.proofs.Refusals.{number_some}
 use Rattle.list.specs.Lists.{channels, origins}
 use Rattle.plan.specs.Steps as S
-use Rattle.layout.specs.Layout.{Rows, rows, rows_of, layout_of, all_fit, all_over}
+use Rattle.record.proofs.Reached.{form_refused, plan_judged, read_accepted, list_few, meant_accepted, coarse_accepted, coarse_is}
+use Rattle.layout.specs.Layout.{Rows, rows, rows_of, all_over}
 use Rattle.layout.proofs.Outcomes.{all_over_lem, room_is, refused, short, done}
-use Rattle.layout.proofs.Read.{form_refused, plan_judged, read_accepted, version_known, list_few, rows_are}
+use Rattle.layout.proofs.Read.{rows_are}
 use Rattle.layout.proofs.layout_of.Goals as goal
-use Rattle.layout.proofs.layout_of.Lts as Lts
-use Rattle.layout.proofs.layout_of.Reads as reads
-use Rattle.layout.proofs.layout_of.Tie as tie
 
-abbrev After-struct_known-3-1 : Type 0
-After-struct_known-3-1 = Lts.After-struct_known3 tie.the-claims reads.Pre reads.Post tie.handed_clauses
+pub returns-in_err-form : goal.returns-in_err-form
+returns-in_err-form c =
+    let r = c.in_err-form.field-0.0 in
+    let e : answer_of c.from_residual.result ≡ number_of r = search rules in
+    let k = refused c.args.bytes.now _ _ (form_refused c.args.bytes.now _ c.in_err-form.ensures (number_some r)) (number_some r) in
+    (e ∙ k.0, k.1)
 
-pub returns-then-form-ne0 : goal.returns-then-form-ne0
-returns-then-form-ne0 c =
-    let f = c.read_form-form in
-    refused c.args.bytes.now _ f.result.answer (form_refused c.args.bytes.now f.result f.ensures c.if-form-ne0.true) c.if-form-ne0.true
+pub returns-in_err-reached : goal.returns-in_err-reached
+returns-in_err-reached c =
+    let r = c.in_err-reached.field-0.0 in
+    let e : answer_of c.from_residual-in_err-reached.result ≡ number_of r = search rules in
+    let k = refused c.args.bytes.now _ _ (plan_judged c.args.bytes.now _ c.in_ok-form.ensures refl _ c.in_err-reached.ensures) (number_some r) in
+    (e ∙ k.0, k.1)
 
-pub returns-then-rewritten-ne0 : goal.returns-then-rewritten-ne0
-returns-then-rewritten-ne0 c =
-    let f = c.read_form-form in
-    refused c.args.bytes.now _ c.rewrite-rewritten.result.answer
-    (plan_judged c.args.bytes.now f.result f.ensures c.if-form-ne0.false c.rewrite-rewritten.result c.rewrite-rewritten.ensures) c.if-rewritten-ne0.true
+pub returns-in_err-meant : goal.returns-in_err-meant
+returns-in_err-meant c =
+    absurd (number_some c.in_err-meant.field-0.0 (meant_accepted c.args.bytes.now _ c.in_ok-form.ensures refl _ c.in_ok-reached.ensures refl _ c.in_err-meant.ensures.value))
+
+pub returns-in_err-coarse : goal.returns-in_err-coarse
+returns-in_err-coarse c =
+    absurd (number_some c.in_err-coarse.field-0.0 (coarse_accepted c.args.bytes.now _ c.in_ok-form.ensures refl _ c.in_ok-reached.ensures refl _ c.in_err-coarse.ensures))
 
 pub overflow_mul-room-2 : goal.overflow_mul-room-2
 overflow_mul-room-2 c =
-    let f = c.read_form-form in
-    let few = list_few _ f.result f.ensures c.if-form-ne0.false c.rewrite-rewritten.result c.rewrite-rewritten.ensures c.if-rewritten-ne0.false in
-    record { fits = omega arith }
-
--- the rows that the code finds are the record's
-rows-here : (c : After-struct_known-3-1) → let m = c.meant_steps.result in
-    rows_of c.read_form-form.result.version (S.steps m.steps) (channels c.rewrite-rewritten.result.list) (origins c.rewrite-rewritten.result.list)
-    ≡ layout_of c.args.bytes.now
-rows-here c =
-    let f = c.read_form-form in
-    rows_are _ f.result f.ensures c.if-form-ne0.false c.rewrite-rewritten.result c.rewrite-rewritten.ensures c.if-rewritten-ne0.false c.meant_steps.result c.meant_steps.ensures.value c.meant_steps.ensures.room
-
--- and their room is asked as question 14 asks it
-room-here : (c : After-struct_known-3-1) (b : Bool) → let a = c.args in
-    let m = c.meant_steps.result.steps in
-    let l = c.rewrite-rewritten.result.list in
-    (((leb 4 (length a.counts.now) && leb (3 * m.count) (length a.steps.now)) && leb (4 * l.count) (length a.channels.now)) && leb l.count (length a.origins.now)) ≡ b
-    → all_fit (layout_of a.bytes.now) (rows a.counts.now a.steps.now a.channels.now a.origins.now) ≡ b
-room-here c b h =
-    let f = c.read_form-form in
-    let few = list_few _ f.result f.ensures c.if-form-ne0.false c.rewrite-rewritten.result c.rewrite-rewritten.ensures c.if-rewritten-ne0.false in
-    rw (← (rows-here c)) (sym (room_is _ c.meant_steps.result.steps c.rewrite-rewritten.result.list c.meant_steps.ensures.room few _) ∙ h)
+    let few = list_few c.args.bytes.now _ c.in_ok-form.ensures refl _ c.in_ok-reached.ensures refl in
+    record { fits = omega (arith, few) }
 
 pub returns-then-not-room : goal.returns-then-not-room
 returns-then-not-room c =
-    let f = c.read_form-form in
-    let z = read_accepted _ f.result f.ensures c.if-form-ne0.false c.rewrite-rewritten.result c.rewrite-rewritten.ensures c.if-rewritten-ne0.false in
-    short _ _ z (room-here c.before.before false c.if-not-room.true)
+    let a = c.args in
+    let f = c.in_ok-form.ensures in
+    let r = c.in_ok-reached.ensures in
+    let m = c.in_ok-meant.ensures in
+    let few = list_few a.bytes.now _ f refl _ r refl in
+    let here = rows_are a.bytes.now _ f refl _ r refl _ m.value m.room in
+    let out = rows a.counts.now a.steps.now a.channels.now a.origins.now in
+    let room = room_is c.in_ok-form.form.version c.in_ok-meant.meant c.in_ok-reached.reached m.room few out in
+    short a.bytes.now out (read_accepted a.bytes.now _ f refl _ r refl) (rw (← here) (sym room ∙ c.if-not-room.true))
 
 pub put_layout-requires : goal.put_layout-requires
 put_layout-requires c =
-    let f = c.read_form-form in (
-      version_known _ f.result f.ensures c.if-form-ne0.false c.rewrite-rewritten.result c.rewrite-rewritten.ensures c.if-rewritten-ne0.false,
-      c.meant_steps.ensures.room,
-      list_few _ f.result f.ensures c.if-form-ne0.false c.rewrite-rewritten.result c.rewrite-rewritten.ensures c.if-rewritten-ne0.false,
-      rw (rows-here c.before.before.before.before.before.before.before) (room-here c.before.before.before.before.before.before.before true c.if-not-room.false),
-    )
+    let a = c.args in
+    let f = c.in_ok-form.ensures in
+    let r = c.in_ok-reached.ensures in
+    let m = c.in_ok-meant.ensures in
+    let few = list_few a.bytes.now _ f refl _ r refl in
+    let here = rows_are a.bytes.now _ f refl _ r refl _ m.value m.room in
+    let out = rows a.counts.now a.steps.now a.channels.now a.origins.now in
+    let room = room_is c.in_ok-form.form.version c.in_ok-meant.meant c.in_ok-reached.reached m.room few out in
+    (m.room, few, coarse_is a.bytes.now _ f refl _ r refl _ c.in_ok-coarse.ensures, sym room ∙ c.if-not-room.false)
 
 pub returns : goal.returns
 returns c =
-    let f = c.read_form-form in
-    let z = read_accepted _ f.result f.ensures c.if-form-ne0.false c.rewrite-rewritten.result c.rewrite-rewritten.ensures c.if-rewritten-ne0.false in
     let a = c.args in
+    let f = c.in_ok-form.ensures in
+    let r = c.in_ok-reached.ensures in
+    let m = c.in_ok-meant.ensures in
+    let few = list_few a.bytes.now _ f refl _ r refl in
+    let here = rows_are a.bytes.now _ f refl _ r refl _ m.value m.room in
     let out = rows a.counts.now a.steps.now a.channels.now a.origins.now in
-    let found = rows_of f.result.version (S.steps c.meant_steps.result.steps) (channels c.rewrite-rewritten.result.list) (origins c.rewrite-rewritten.result.list) in
-    done _ _ z (room-here c.before.before.before.before.before.before.before.before.before.before.before.before.before.before.before.before true c.if-not-room.false) _ (all_over_lem found out _ _ _ _ c.put_layout.ensures ∙ ap (λ (x : Rows). all_over x out) (rows-here c.before.before.before.before.before.before.before.before.before.before.before.before.before.before.before.before))
+    let room = room_is c.in_ok-form.form.version c.in_ok-meant.meant c.in_ok-reached.reached m.room few out in
+    let found = rows_of c.in_ok-form.form.version (S.steps c.in_ok-meant.meant) (channels c.in_ok-reached.reached) (origins c.in_ok-reached.reached) in
+    done a.bytes.now out (read_accepted a.bytes.now _ f refl _ r refl) (rw (← here) (sym room ∙ c.if-not-room.false)) _
+    (all_over_lem found out _ _ _ _ c.put_layout.ensures ∙ ap (λ (x : Rows). all_over x out) here)

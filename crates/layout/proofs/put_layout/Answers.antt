@@ -7,7 +7,7 @@ use Rattle.layout.proofs.put_layout.Goals as goal
 
 pub overflow_cast-numbers-3 : goal.overflow_cast-numbers-3
 overflow_cast-numbers-3 c =
-    let few = coarse_few c.args.version c.args.meant c.args.reached c.requires.1 c.requires.2 c.coarse_count-coarse.result c.coarse_count-coarse.ensures c.requires.0 in
+    let few = coarse_few c.args.version c.args.meant.now c.args.reached.now c.requires.0 c.requires.1 c.args.coarse c.requires.2 in
     record { fits = omega arith }
 
 pub put_numbers-requires : goal.put_numbers-requires
@@ -15,16 +15,15 @@ unfolding Layout.counts_of
 put_numbers-requires c = (fit_each _ _ c.requires.3).counts
 
 pub put_steps-requires : goal.put_steps-requires
-put_steps-requires c = (c.requires.1, (fit_each _ _ c.requires.3).steps)
+put_steps-requires c = (c.requires.0, (fit_each _ _ c.requires.3).steps)
 
 pub put_channels-requires : goal.put_channels-requires
-put_channels-requires c = (c.requires.2, (fit_each _ _ c.requires.3).channels)
+put_channels-requires c = (c.requires.1, (fit_each _ _ c.requires.3).channels)
 
 pub put_origins-requires : goal.put_origins-requires
-put_origins-requires c = (c.requires.2, (fit_each _ _ c.requires.3).origins)
+put_origins-requires c = (c.requires.1, (fit_each _ _ c.requires.3).origins)
 
 pub returns : goal.returns
 returns c =
-    let q = c.coarse_count-coarse in
-    let counted = counts_over c.args.version c.args.meant c.args.reached c.requires.1 c.requires.2 q.result q.ensures c.requires.0 c.args.counts.now in
+    let counted = counts_over c.args.version c.args.meant.now c.args.reached.now c.requires.0 c.requires.1 c.args.coarse c.requires.2 c.args.counts.now in
     (c.put_numbers.ensures ∙ counted, c.put_steps.ensures, c.put_channels.ensures, c.put_origins.ensures)

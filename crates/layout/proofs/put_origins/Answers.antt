@@ -12,17 +12,17 @@ loop-k-init c =
     let g = c.args in
     let few = c.requires.0 in
     let room = c.requires.1 in
-    let n = origins_length g.list in
-    (few, omega arith, front_none g.out.now (origins g.list), refl, omega arith, omega arith)
+    let n = origins_length g.list.now in
+    (few, omega arith, front_none g.out.now (origins g.list.now), refl, omega arith, omega arith)
 
 pub loop-k-preserved : goal.loop-k-preserved
 loop-k-preserved c =
     let g = c.args in
     let i = c.loop-k.invariant in
-    let found = origins_at g.list c.loop-k.k (omega arith) in (
+    let found = origins_at g.list.now c.loop-k.k (omega arith) in (
       i.0,
       i.1,
-      rw i.2 (front_more g.out.now (origins g.list) c.loop-k.k _ (omega arith) (omega arith) found),
+      rw i.2 (front_more g.out.now (origins g.list.now) c.loop-k.k _ (omega arith) (omega arith) found),
       simp length-set i.3,
       omega arith,
       i.5,
@@ -32,4 +32,4 @@ pub returns : goal.returns
 returns c =
     let g = c.args in
     let i = c.loop-k.invariant in
-    i.2 ∙ front_all g.out.now (origins g.list) c.loop-k.k (omega arith)
+    i.2 ∙ front_all g.out.now (origins g.list.now) c.loop-k.k (omega arith)

@@ -1,6 +1,6 @@
 -- `put_origins` meets its contract: the origins so far are pasted into the slice. Assumes nothing.
 use mathlib.Core.Path.{◌≡◌}
-use Prim.Native.Nat.{◌-◌, ◌≤◌}
+use Prim.Native.Nat.{◌≤◌}
 use lib.ListN.{length}
 use lib.Seq.{paste}
 use Rattle.list.specs.Lists.{max_channels, origins}
@@ -8,7 +8,4 @@ use Rattle.layout.proofs.put_origins.Given as goal
 
 abbrev pub invariant-loop-k : goal.invariant-loop-k
 invariant-loop-k l =
-    (l.count ≤ max_channels) × (length (origins l.list) ≡ l.count) × (l.out ≡ paste l.initial.out 0 (origins l.list) l.k) × (length l.out ≡ length l.initial.out) × (l.k ≤ l.count) × (l.count ≤ length l.initial.out)
-
-abbrev pub decreases-loop-k : goal.decreases-loop-k
-decreases-loop-k l = l.count - l.k
+    (l.list.count ≤ max_channels) × (length (origins l.list) ≡ l.list.count) × (l.out ≡ paste l.initial.out 0 (origins l.list) l.k) × (length l.out ≡ length l.initial.out) × (l.k ≤ l.list.count) × (l.list.count ≤ length l.initial.out)

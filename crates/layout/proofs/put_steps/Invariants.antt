@@ -1,6 +1,5 @@
 -- `put_steps` meets its contract. The loop's invariant: the numbers so far are in the slice, and those that are left complete them
 -- (record/proofs/Placed.antt). Assumes nothing.
-use Prim.Native.Nat.{◌-◌}
 use Rattle.plan.specs.Steps as S
 use Rattle.plan.specs.Steps.{step_at}
 use Rattle.record.proofs.Placed.{Putting}
@@ -8,7 +7,4 @@ use Rattle.layout.specs.Layout.{step_numbers, all_steps}
 use Rattle.layout.proofs.put_steps.Given as goal
 
 abbrev pub invariant-loop-k : goal.invariant-loop-k
-invariant-loop-k l = Putting step_numbers (step_at l.steps) l.count (all_steps (S.steps l.steps)) 0 l.initial.out l.out l.at l.k
-
-abbrev pub decreases-loop-k : goal.decreases-loop-k
-decreases-loop-k l = l.count - l.k
+invariant-loop-k l = Putting step_numbers (step_at l.steps) l.steps.count (all_steps (S.steps l.steps)) 0 l.initial.out l.out l.at l.k
