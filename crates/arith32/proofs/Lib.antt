@@ -1,5 +1,6 @@
 pub mod Whole
 pub mod Residues
-pub mod Halves
+pub mod Wraps
 pub mod Thirds
 pub mod Ends
+pub mod Halves

@@ -6,12 +6,10 @@ use Prim.Native.Nat.{ℕ, zero, suc, ◌+◌, ◌-◌, ◌%◌, ◌<◌, ◌≤�
 use native.Mathlib.Omega.{arith}
 use lib.Dec.{T, ltb, ltb→lt, nltb→le}
 use lib.IntN.{ℤ, pos, negsuc, neg_ℤ, sub_ℕ, ◌+ℤ◌, ◌-ℤ◌}
-use lib.Signed.{mag}
 use mir.Syntax.{w32}
 use mir.Val.{Fits, to_z, of_z}
 use mir.ValLaws.{to_z-of_z, of_z-to_z, to_z-Fits}
 use Rattle.arith32.specs.Arith.{Sample, modulus, residue, wrap, ◌⊕◌, ◌⊖◌}
-use Rattle.arith32.proofs.Whole.{sum_law, difference_law, range32, in_mag}
 
 pub residue_below : (z : ℤ) → residue z < modulus
 unfolding residue
@@ -44,10 +42,6 @@ residue_wrap z = residue_bits (wrap z) (wrap_sample z) ∙ of_z-to_z w32 (residu
 pub residue_inj : (a b : ℤ) → Sample a → Sample b → residue a ≡ residue b → a ≡ b
 unfolding wrap
 residue_inj a b fa fb e = sym (wrap_id a fa) ∙ ap (to_z w32) e ∙ wrap_id b fb
-
--- a sample with z's residue is what z wraps to
-pub is_wrap : (r z : ℤ) → Sample r → residue r ≡ residue z → r ≡ wrap z
-is_wrap r z f e = residue_inj r (wrap z) f (wrap_sample z) (e ∙ sym (residue_wrap z))
 
 -- ---- sums and differences
 by_test : (a b : ℕ) (t : Bool) → (T t → a < b) → (T (not t) → b ≤ a)
@@ -96,18 +90,3 @@ pub minus_minus : (x y : ℤ) → Sample y → x ⊖ (x ⊖ y) ≡ y
 minus_minus x y f =
     residue_inj (x ⊖ (x ⊖ y)) y (wrap_sample _) f
     (omega (arith, residue-⊖ x (x ⊖ y), residue-⊖ x y, residue_below x, residue_below y))
-
--- ---- before it wraps, the sum or the difference of two samples is below 2^32 in magnitude
-pub sum_mag : (a b : ℤ) → Sample a → Sample b → mag (a +ℤ b) < modulus
-sum_mag a b fa fb =
-    let s = sum_law a b in
-    let ra = range32 a fa in
-    let rb = range32 b fb in
-    in_mag (a +ℤ b) modulus (omega arith) (omega arith)
-
-pub difference_mag : (a b : ℤ) → Sample a → Sample b → mag (a -ℤ b) < modulus
-difference_mag a b fa fb =
-    let d = difference_law a b in
-    let ra = range32 a fa in
-    let rb = range32 b fb in
-    in_mag (a -ℤ b) modulus (omega arith) (omega arith)

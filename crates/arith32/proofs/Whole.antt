@@ -178,16 +178,6 @@ unfolding above below
 in_range64 (pos n) h k = record { sfits = omega arith }
 in_range64 (negsuc n) h k = record { sfits = omega arith }
 
-pub mag_law : (z : ℤ) → (above z ≤ mag z) × (below z ≤ mag z + 1)
-unfolding above below
-mag_law (pos n) = (omega arith, omega arith)
-mag_law (negsuc n) = (omega arith, omega arith)
-
-pub in_mag : (z : ℤ) (n : ℕ) → above z < n + below z → below z ≤ n + above z → mag z < n
-unfolding above below
-in_mag (pos k) n h l = omega arith
-in_mag (negsuc k) n h l = omega arith
-
 pub shift_fits : {w : Width} (z : ℤ) (m : ℕ) → SFits w z → SFits w (shr_z z m)
 shift_fits z m f = sfits_le (mag_shr z m) f
 

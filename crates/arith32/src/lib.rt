@@ -1,48 +1,38 @@
-// 32-bit sample arithmetic (document 01, "The pair"): sums that wrap, the
-// wrapped absolute value, half toward zero, and the upper half of a product.
-// Total: no function asks anything of its caller but the private `narrow`.
+// 32-bit sample arithmetic: sums that wrap, the wrapped absolute value, half
+// toward zero, and the upper half of a product. The methods that wrap are std's.
+// They stand here under clauses in the definitions' words, by which the check
+// finds the proofs of tendency and pair alone; called there directly, they leave
+// goals on bits that it does not find. Total: nothing is asked of a caller.
 #![tactic(auto)]
 
-ghost use Rattle.std.specs.Prelude.{◌≡◌, ◌<◌, pos};
-ghost use Rattle.std.specs.Int.Signed.{mag};
+ghost use Rattle.std.specs.Prelude.{◌≡◌, pos};
 ghost use Rattle.arith32.specs.Arith as Arith;
 ghost use Rattle.arith32.specs.Arith.{◌⊕◌, ◌⊖◌};
 
-// The sample that differs from `s` by a multiple of 2^32. A sum or a
-// difference of two samples meets the bound.
-fn narrow(s: i64) -> i32
-    requires { mag s < Arith.modulus }
-    ensures { result ≡ Arith.wrap s }
-{
-    if s > 0x7FFF_FFFF {
-        (s - 0x1_0000_0000) as i32
-    } else if s < -0x8000_0000 {
-        (s + 0x1_0000_0000) as i32
-    } else {
-        s as i32
-    }
-}
-
+#[tactic(auto, using(crate::proofs::Wraps::wrapped_sum))]
 pub fn wrapping_add(a: i32, b: i32) -> i32
     ensures { result ≡ a ⊕ b }
 {
-    narrow((a as i64) + (b as i64))
+    a.wrapping_add(b)
 }
 
+#[tactic(auto, using(crate::proofs::Wraps::wrapped_difference))]
 pub fn wrapping_sub(a: i32, b: i32) -> i32
     ensures { result ≡ a ⊖ b }
 {
-    narrow((a as i64) - (b as i64))
+    a.wrapping_sub(b)
 }
 
 // -2^31 stays.
+#[tactic(auto, using(crate::proofs::Wraps::wrapped_magnitude))]
 pub fn wrapping_abs(z: i32) -> i32
     ensures { result ≡ Arith.wrapped_abs z }
 {
-    if z < 0 { wrapping_sub(0, z) } else { z }
+    z.wrapping_abs()
 }
 
-// Half of `d` toward zero: `d` plus its sign bit, shifted right with sign.
+// Half of `d` toward zero: `d` plus its sign bit, shifted right with sign. `d / 2` is
+// the same; a rule of the project has it by the sign bit, exact at -1, 0 and -2^31.
 pub fn half(d: i32) -> i32
     ensures { result ≡ Arith.half d }
 {
@@ -65,8 +55,9 @@ pub fn lowest_bit(v: i32) -> i32
 }
 
 // The sample with these 32 bits.
+#[tactic(auto, using(crate::proofs::Wraps::wrapped_bits))]
 pub fn from_bits(bits: u32) -> i32
     ensures { result ≡ Arith.wrap (pos bits) }
 {
-    narrow(bits as i64)
+    bits.cast_signed()
 }

@@ -1,12 +1,13 @@
-// The block of eight (document 01, "Tiles"; it stands for the Rust's
-// `SimdDescriptor` vectors): four blocks of eight neighbouring samples by
-// value, an array of two blocks out, each lane the pair. Total.
+// The block of eight (it stands for the Rust's `SimdDescriptor` vectors): four
+// blocks of eight neighbouring samples by value, an array of two blocks out,
+// each lane the pair. Total.
 #![tactic(auto)]
 
 ghost use Rattle.std.specs.Prelude.{◌≡◌};
 ghost use Rattle.block.specs.Block.{unsqueezed};
 
-use pair::unsqueeze_lane;
+use pair::Pair;
+use tendency::Branchless;
 
 pub fn unsqueeze_block(
     avg: [i32; 8],
@@ -20,9 +21,9 @@ pub fn unsqueeze_block(
     let mut firsts = avg;
     let mut seconds = prev;
     for i in 0..8 {
-        let p = unsqueeze_lane(firsts[i], res[i], next[i], seconds[i]);
-        let first = p.first;
-        let second = p.second;
+        let Pair { first, second } = pair::unsqueeze::<Branchless>(
+            firsts[i], res[i], next[i], seconds[i],
+        );
         firsts[i] = first;
         seconds[i] = second;
     }

@@ -1,52 +1,17 @@
--- A slice whose front is overwritten from a list, sample by sample, and the two results that are made so. Assumes nothing.
-use mathlib.Core.Path.{◌≡◌, sym, ap, ◌∙◌}
+-- What callers ask of a slice after a copy and after it was cleared. Assumes nothing.
+use mathlib.Core.Path.{◌≡◌, ap, ◌∙◌}
 use mathlib.Core.List.{List, ◌++◌, append-nil}
-use Prim.Native.Nat.{ℕ, suc, ◌+◌, ◌<◌, ◌≤◌}
+use Prim.Native.Nat.{◌≤◌}
 use native.Mathlib.Omega.{arith}
-use native.Mathlib.Numerals.{add-one}
-use lib.IntN.{ℤ, pos}
-use lib.ListN.{length, get_or, set, take, drop, length-append, length-take, length-drop, length-replicate, get_or-replicate}
-use lib.Seq.{take-suc, drop-cons, set_at, append_snoc, take_all, length-take-le, drop-length}
+use lib.IntN.{ℤ}
+use lib.ListN.{length, drop}
+use lib.Seq.{take_all, drop-length}
 use Rattle.buffer.specs.Buffer.{both, copied, zeros}
-
--- the first k samples of xs, and from there on the slice as it was
-abbrev pub overwritten : List ℤ → ℕ → List ℤ → List ℤ
-overwritten xs k out = take k xs ++ drop k out
-
-pub overwritten_more : (xs out : List ℤ) (k : ℕ) (v : ℤ) → k < length xs → k < length out → v ≡ get_or xs k (pos 0)
-    → set (overwritten xs k out) k v ≡ overwritten xs (k + 1) out
-overwritten_more xs out k v hx ho e =
-    rw (add-one, e, drop-cons out k (pos 0) ho, take-suc xs k (pos 0) hx)
-    (set_at (take k xs) (get_or out k (pos 0)) (drop (suc k) out) (get_or xs k (pos 0)) k (length-take-le k xs (omega arith))
-    ∙ sym (append_snoc (take k xs) (get_or xs k (pos 0)) (drop (suc k) out)))
-
-pub overwritten_copied : (from to : List ℤ) (k : ℕ) → k ≡ both from to → overwritten from k to ≡ copied from to
-unfolding copied
-overwritten_copied from to k e = rw e
-
--- ---- the list of a cleared slice
-pub zeros_length : (xs : List ℤ) → length (zeros xs) ≡ length xs
-unfolding zeros
-zeros_length xs = length-replicate (length xs) (pos 0)
 
 -- zeros go by the length
 pub zeros_same : (xs ys : List ℤ) → length xs ≡ length ys → zeros xs ≡ zeros ys
 unfolding zeros
 zeros_same xs ys e = rw e
-
-pub zeros_at : (xs : List ℤ) (k : ℕ) → k < length xs → pos 0 ≡ get_or (zeros xs) k (pos 0)
-unfolding zeros
-zeros_at xs k h = sym (get_or-replicate (length xs) k (pos 0) (pos 0) h)
-
-pub overwritten_zeros : (xs : List ℤ) (k : ℕ) → k ≡ length xs → overwritten (zeros xs) k xs ≡ zeros xs
-overwritten_zeros xs k e =
-    let n = zeros_length xs in
-    rw (e, drop-length xs) (append-nil (take (length xs) (zeros xs)) ∙ take_all (length xs) (zeros xs) (omega arith))
-
--- ---- what callers ask of a copy
-pub copied_length : (from to : List ℤ) → length (copied from to) ≡ length to
-unfolding copied
-copied_length from to = simp (length-append, length-take, length-drop) (omega arith)
 
 -- a slice with room for all of the other
 pub copied_front : (from to : List ℤ) → length from ≤ length to → copied from to ≡ from ++ drop (length from) to

@@ -1,6 +1,6 @@
 -- A vertical squeeze from its parts: the averages copied where there is no pair; else the row before the first pair copied in, the ordinary pairs
 -- of rows and the end of the lines put together (proofs/Pairs.antt of the crate line). Assumes nothing.
-use mathlib.Core.Path.{◌≡◌, refl, sym, ap, ◌∙◌}
+use mathlib.Core.Path.{◌≡◌, refl, sym, ◌∙◌}
 use mathlib.Core.Bool.{false}
 use mathlib.Core.List.{List}
 use Prim.Native.Nat.{ℕ, ◌+◌, ◌*◌, ◌<◌, ◌≤◌}
@@ -57,13 +57,6 @@ module _ {w m n : ℕ} {avg res next prev : List ℤ} (fitting : Fitting (squeez
       before_row_room =
           let h : 2 ≤ m + n = omega (arith, fitting.low) in
           omega (arith, before_length prev avg w, mul-le-mul_right w h)
-
-      -- what `ordinary_pairs` asks
-      pub pairs_asked : (i * w + w ≤ length avg) × (i * w ≤ length res) × ((i + i) * w + w + w ≤ length out)
-      pairs_asked =
-          let e = ap (λ (x : ℕ). w * x) last in
-          let l = mul-le-mul_right w fitting.low in
-          (omega (arith, fitting.avg_length), omega (arith, fitting.res_length), omega arith)
 
       pub rows_together : (from : ℕ) {mid new : List ℤ}
           → let old = pasted out w (row_before prev avg w) in

@@ -1,17 +1,14 @@
 -- What a slice holds after a row is copied into it (`paste` of lib.Seq): the row's samples at its place, and elsewhere the old ones.
 -- Assumes nothing.
-use mathlib.Core.Path.{◌≡◌, sym, ap, ◌∙◌}
+use mathlib.Core.Path.{◌≡◌, ap, ◌∙◌}
 use mathlib.Core.List.{List, ◌++◌, append_assoc}
 use mathlib.Core.Logic.{◌⊎◌, inl, inr}
 use Prim.Native.Nat.{ℕ, ◌+◌, ◌-◌, ◌<◌, ◌≤◌}
 use native.Mathlib.Omega.{arith}
 use lib.IntN.{ℤ, pos}
 use lib.ListN.{length, get_or, take, drop, get_or-append}
-use lib.Seq.{paste, get_or-take, get_or-drop, get_or-append-add, length-take-le, length-paste, length_paste_head, take-length, drop-drop}
-use Rattle.buffer.specs.Buffer.{copied}
-use Rattle.buffer.proofs.Overwritten.{copied_all}
+use lib.Seq.{paste, get_or-take, get_or-drop, get_or-append-add, length-take-le, length-paste, length_paste_head}
 use Rattle.line.proofs.Lines.{lt_or_ge}
-use Rattle.columns.proofs.OuterRows.{part_length}
 
 -- the slice afterwards
 abbrev pub pasted : List ℤ → ℕ → List ℤ → List ℤ
@@ -58,11 +55,3 @@ module _ (d : List ℤ) (at : ℕ) (row : List ℤ) (inside : at + length row �
       by_place (inl l) _ = pasted_below q l
       by_place (inr g) (inl l) = absurd (off (q - at) (omega arith) (omega arith))
       by_place (inr g) (inr h) = pasted_above q h
-
-  -- a part that a row of its length was copied into, back in its place
-  pub part_copied : (n : ℕ) (part : List ℤ) → n ≡ length row → part ≡ copied row (take n (drop at d))
-      → take at d ++ (part ++ drop n (drop at d)) ≡ pasted d at row
-  part_copied n part e h =
-      let l = part_length d at (length row) inside in
-      let p : part ≡ take (length row) row = h ∙ rw e (copied_all row (take (length row) (drop at d)) (sym l)) ∙ sym (take-length row) in
-      rw (p, e, drop-drop (length row) at d) (sym (append_assoc (take at d) (take (length row) row) (drop (at + length row) d)))

@@ -1,6 +1,6 @@
 -- The pairs of rows of a vertical squeeze. What `row_pair` makes (`Columns` of specs/Rows.antt) is a pair of every line (`OnePair` of the crate
 -- line); where its next averages are the next row, a turn of `ordinary_pairs` adds an ordinary pair (`Down`). Assumes nothing.
-use mathlib.Core.Path.{◌≡◌, refl, sym, ap, ◌∙◌}
+use mathlib.Core.Path.{◌≡◌, refl, ap, ◌∙◌}
 use mathlib.Core.Bool.{false}
 use mathlib.Core.List.{List}
 use mathlib.Core.Logic.{◌⊎◌, inl, inr}
@@ -53,25 +53,6 @@ module _ {avg res : List ℤ} {count w : ℕ} {old out : List ℤ} {from to a i 
   module _ (turn : i < count) where
     pub next_room : count * w + w ≤ length avg → a + w + w ≤ length avg
     next_room h = omega (arith, d.row_at, mul-le-mul_right w turn)
-
-    pub res_room : count * w ≤ length res → a + w ≤ length res
-    res_room h = omega (arith, d.row_at, mul-le-mul_right w turn)
-
-    pub pair_room : {room : ℕ} → (count + count) * w + w + w ≤ room → to + w + w ≤ room
-    pair_room h = omega (arith, d.pair_at, mul-le-mul_right w turn)
-
-    -- what `row_pair` asks
-    pub pair_asked : {room : ℕ} → count * w + w ≤ length avg → count * w ≤ length res → (count + count) * w + w + w ≤ room
-        → (length (take w (drop a res)) ≡ length (take w (drop a avg)))
-        × (length (take w (drop (a + w) avg)) ≡ length (take w (drop a avg)))
-        × Apart from to (length (take w (drop a avg))) room
-    pair_asked ha hr ho =
-        let n = next_room ha in
-        let l = part_length avg a w (omega arith) in (
-          part_length res a w (res_room hr) ∙ sym l,
-          part_length avg (a + w) w n ∙ sym l,
-          rw l (record { inside = pair_room ho; away = d.away }),
-        )
 
     -- ---- one pair more
     pub down_more : {new : List ℤ} → count * w + w ≤ length avg

@@ -57,10 +57,6 @@ module _ (f : ℤ → ℤ → ℤ → ℤ → ℤ) (avg res next s : List ℤ) (
         ∙ rw (part_at avg x 8 (k - x) i, part_at res x 8 (k - x) i, part_at next x 8 (k - x) i, part_at s (from + x) 8 (k - x) i, e, d) refl
 
 module _ {avg res next : List ℤ} {from to : ℕ} where
-  pub columns_none : (s : List ℤ) (x : ℕ) → Columns avg res next s s from to x x
-  columns_none s x =
-      record { long = refl; firsts = λ k g l. absurd (omega arith); seconds = λ k g l. absurd (omega arith); kept = λ q off. refl }
-
   -- ---- two ranges
   pub columns_join : {old mid new : List ℤ} {room lo x hi : ℕ} → Apart from to (length avg) room → lo ≤ x → x ≤ hi → hi ≤ length avg
       → Columns avg res next old mid from to lo x → Columns avg res next mid new from to x hi → Columns avg res next old new from to lo hi

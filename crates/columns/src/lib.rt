@@ -12,6 +12,9 @@ ghost use Rattle.line.specs.Pairs.{lines_of, Ordinary, Ended};
 ghost use Rattle.line.specs.Into.{uncut_into};
 ghost use Rattle.columns.specs.Rows.{row_before, row_after, Apart, Columns};
 
+use pair::Pair;
+use tendency::Branching;
+
 // The row before the first: the previous output row or average row 0.
 fn row_before<'a>(prev: &'a [i32], avg: &'a [i32], w: usize) -> &'a [i32]
     requires { (w ≤ length avg.now) × ((length prev.now ≡ 0) ⊎ (length prev.now ≡ w)) }
@@ -40,16 +43,24 @@ fn copy_row(row: &[i32], out: &mut [i32], to: usize)
     requires { to + length row.now ≤ length out.old }
     ensures { out.new ≡ paste out.old to row.now (length row.now) }
 {
-    buffer::copy(row, &mut out[to..to + row.len()]);
+    out[to..to + row.len()].copy_from_slice(row);
 }
 
 fn load(s: &[i32], at: usize) -> [i32; 8]
     requires { at + 8 ≤ length s.now }
     ensures { result ≡ take 8 (drop at s.now) }
 {
-    let mut b = [0i32; 8];
-    buffer::copy(&s[at..at + 8], &mut b);
-    b
+    *s[at..at + 8].as_array().unwrap()
+}
+
+// Not `copy_from_slice`, which takes more instructions for eight samples.
+fn store(out: &mut [i32], at: usize, b: [i32; 8])
+    requires { at + 8 ≤ length out.old }
+    ensures { out.new ≡ paste out.old at b (length b) }
+{
+    for k in 0..8 {
+        out[at + k] = b[k];
+    }
 }
 
 // Two rows of output at `to` by eights, with the row before them at `from`;
@@ -66,8 +77,8 @@ fn columns_by_eight(
     ensures { (result ≤ length avg.now) × (length avg.now < result + 8) × Columns avg.now res.now next.now out.old out.new from to 0 result }
 {
     let w = avg.len();
-    let mut x = 0;
-    while 8 <= w - x {
+    for k in 0..w / 8 {
+        let x = 8 * k;
         let pairs = block::unsqueeze_block(
             load(avg, x),
             load(res, x),
@@ -76,11 +87,10 @@ fn columns_by_eight(
         );
         let firsts = pairs[0];
         let seconds = pairs[1];
-        copy_row(&firsts, out, to + x);
-        copy_row(&seconds, out, to + w + x);
-        x += 8;
+        store(out, to + x, firsts);
+        store(out, to + w + x, seconds);
     }
-    x
+    w / 8 * 8
 }
 
 // The columns from `start` on, one by one.
@@ -97,14 +107,15 @@ fn columns_singly(
     ensures { Columns avg.now res.now next.now out.old out.new from to start (length avg.now) }
 {
     let w = avg.len();
-    let mut x = start;
-    while x < w {
-        let p = pair::unsqueeze(avg[x], res[x], next[x], out[from + x]);
-        let first = p.first;
-        let second = p.second;
+    for x in start..w {
+        let Pair { first, second } = pair::unsqueeze::<Branching>(
+            avg[x],
+            res[x],
+            next[x],
+            out[from + x],
+        );
         out[to + x] = first;
         out[to + w + x] = second;
-        x += 1;
     }
 }
 
@@ -123,6 +134,8 @@ fn ordinary_pairs(avg: &[i32], res: &[i32], count: usize, w: usize, out: &mut [i
     requires { (count * w + w ≤ length avg.now) × (count * w ≤ length res.now) × ((count + count) * w + w + w ≤ length out.old) }
     ensures { Ordinary (lines_of false w (count + 1) count avg.now res.now) (λ k. get_or out.old (w + k) (pos 0)) (λ k. get_or out.new (result + k) (pos 0)) out.old out.new 0 count × Apart result ((count + count) * w) w (length out.old) }
 {
+    // Places that go on by whole rows. As products of the turn's number they would
+    // be no plainer, since the row before the first pair stands apart.
     let mut from = w;
     let mut to = 0;
     let mut a = 0;

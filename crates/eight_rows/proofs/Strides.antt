@@ -6,9 +6,8 @@ use mathlib.Core.Logic.{◌⊎◌, inl, inr}
 use Prim.Native.Nat.{ℕ, zero, suc, ◌+◌, ◌*◌, ◌<◌, ◌≤◌}
 use native.Mathlib.Omega.{arith}
 use native.Mathlib.Nat.{mul-le-mul_right}
-use borrow.Author.Count.{below_more}
 use lib.IntN.{ℤ, pos}
-use lib.ListN.{length, get_or, set, length-set}
+use lib.ListN.{length, get_or, length-set}
 use lib.Seq.{get_or-set_same, get_or-set_other}
 use Rattle.eight_rows.specs.Lanes.{lanes_at, with_some, with_lanes}
 use Rattle.line.proofs.Tables.{is_table, table_at, table_length}
@@ -23,22 +22,6 @@ pub record Loaded (s : List ℤ) (at stride : ℕ) (b : List ℤ) (i : ℕ) : Ty
   pub long : length b ≡ 8
   pub inside : i ≤ 8
   pub done : (k : ℕ) → k < i → get_or b k (pos 0) ≡ get_or s (at + k * stride) (pos 0)
-
-pub loaded_none : (s : List ℤ) (at stride : ℕ) (b : List ℤ) → length b ≡ 8 → Loaded s at stride b 0
-loaded_none s at stride b e = record { long = e; inside = omega arith; done = λ k h. absurd (omega arith) }
-
-pub loaded_more : (s : List ℤ) (at stride : ℕ) (b : List ℤ) (i : ℕ) (v : ℤ) → i < 8 → v ≡ get_or s (at + i * stride) (pos 0)
-    → Loaded s at stride b i → Loaded s at stride (set b i v) (i + 1)
-loaded_more s at stride b i v h e w =
-    let n = w.long in
-    record {
-      long = length-set b i v ∙ n;
-      inside = omega arith;
-      done =
-          below_more (λ (k : ℕ). get_or (set b i v) k (pos 0) ≡ get_or s (at + k * stride) (pos 0)) i
-          (λ k p. get_or-set_other b i k v (pos 0) (λ (q : k ≡ i). omega arith) ∙ w.done k p)
-          (get_or-set_same b i v (pos 0) (omega arith) ∙ e);
-    }
 
 pub loaded_all : (s : List ℤ) (at stride : ℕ) (b : List ℤ) (i : ℕ) → 8 ≤ i → Loaded s at stride b i → b ≡ lanes_at s at stride
 unfolding lanes_at

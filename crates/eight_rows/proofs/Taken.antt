@@ -10,7 +10,7 @@ use lib.ListN.{length, get_or}
 use Rattle.eight_rows.specs.Lanes.{lanes_at, with_lanes}
 use Rattle.line.proofs.Tables.{table_cong}
 use Rattle.line.proofs.Lines.{lt_or_ge}
-use Rattle.eight_rows.proofs.Strides.{lane_room, lanes_at_lem, lanes_put_length, lanes_put_on, lanes_put_off}
+use Rattle.eight_rows.proofs.Strides.{lanes_at_lem, lanes_put_length, lanes_put_on, lanes_put_off}
 
 module _ (s : List ℤ) (at n : ℕ) where
   pub record Taken (part : List ℤ) (i : ℕ) : Type 0 where
@@ -20,10 +20,6 @@ module _ (s : List ℤ) (at n : ℕ) where
 
   pub taken_none : (part : List ℤ) → length part ≡ 64 → Taken part 0
   taken_none part e = record { long = e; inside = omega arith; done = λ k j hk hj. absurd (omega arith) }
-
-  -- the samples of a row lie inside
-  pub row_inside : (k : ℕ) → k < 8 → at + 8 ≤ n → length s ≡ 8 * n → at + k * n + 7 < length s
-  row_inside k h r e = let l = lane_room (at + 7) n k (8 * n) h (omega arith) in omega arith
 
   -- a row more
   pub taken_more : (part b : List ℤ) (i : ℕ) → i < 8 → b ≡ lanes_at s (at + i * n) 1 → Taken part i → Taken (with_lanes part (8 * i) 1 b) (i + 1)

@@ -113,6 +113,7 @@ fn part_pairs(
     let part = part_of(res, i, n);
     let mut before = prior;
     for j in 0..2 {
+        // Named first: a call's array is not laid into one that a loop carries.
         let last = four_pairs(avg, &part, before, i + 4 * j, 4 * j, m, n, out);
         before = last;
     }
@@ -165,13 +166,12 @@ fn ordinary_pairs(
     ensures { Ordinary (lines_of true 8 m n avg.now res.now) (lane prior) (lane result) out.old out.new 0 to }
 {
     let mut before = prior;
-    let mut i = 0;
-    while 8 <= to - i {
-        let last = part_pairs(avg, res, before, i, m, n, out);
+    for k in 0..to / 8 {
+        // Named first: a call's array is not laid into one that a loop carries.
+        let last = part_pairs(avg, res, before, 8 * k, m, n, out);
         before = last;
-        i += 8;
     }
-    single_pairs(avg, res, before, i, to, m, n, out)
+    single_pairs(avg, res, before, to / 8 * 8, to, m, n, out)
 }
 
 // The last of n pairs, and the tails.

@@ -5,7 +5,7 @@ use mathlib.Core.Bool.{Bool, true, false, cond}
 use mathlib.Core.List.{List}
 use Prim.Native.Nat.{ℕ, zero, suc, ◌+◌, ◌-◌, ◌*◌, ◌/◌, ◌<◌, ◌≤◌}
 use native.Mathlib.Omega.{arith}
-use native.Mathlib.Nat.{mul-le-mul_right, add-mul, mul-add}
+use native.Mathlib.Nat.{mul-le-mul_right, add-mul, mul-add, mul_comm}
 use borrow.Author.Tests.{lt-ltb, le-ltb}
 use lib.IntN.{ℤ}
 use Rattle.arith32.specs.Arith.{◌⊖◌}
@@ -76,6 +76,13 @@ module _ (h : Bool) (lines size : ℕ) (xs : List ℤ) (y x : ℕ) where
 -- ---- rows of w; the averages and the residuals of a line, and of all lines
 pub row_room : (y h w : ℕ) → y < h → y * w + w ≤ h * w
 row_room y h w l = let r : (y + 1) * w ≤ h * w = mul-le-mul_right w (omega arith) in omega (arith, add-mul y 1 w)
+
+-- pair y of all lines, among their averages and their residuals
+pub row_ends : (y lines size : ℕ) → y + y + 1 < size → (y * lines + lines ≤ lines * average_count size) × (y * lines + lines ≤ lines * residual_count size)
+row_ends y lines size h = (
+  omega (arith, row_room y (average_count size) lines (omega arith), mul_comm lines (average_count size)),
+  omega (arith, row_room y (residual_count size) lines (omega arith), mul_comm lines (residual_count size)),
+)
 
 pub halves : (size : ℕ) → (size - size / 2 ≡ average_count size) × (size / 2 ≡ residual_count size)
 halves size = (omega arith, omega arith)

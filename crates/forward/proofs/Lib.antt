@@ -1,6 +1,5 @@
 pub mod Entries
-pub mod Puts
+pub mod Filled
 pub mod Nexts
 pub mod Stretches
-pub mod Across
 pub mod Fitted

@@ -1,9 +1,9 @@
--- The two positions whose samples stand for the pair after pair i of a line (`next_first` and `next_second` of specs/Rows.antt): they lie inside the
--- line, and the average of their samples is the one after that of pair i (`next_at` of crate line), at the line's end too, since the average of
--- a sample with itself is that sample. Assumes nothing.
+-- The two positions whose samples stand for the pair after pair i of a line (`next_first` of specs/Rows.antt, and the one behind it unless the line
+-- ends there): they lie inside the line, and the average of their samples is the one after that of pair i (`next_at` of crate line), at the line's
+-- end too, since the average of a sample with itself is that sample. Assumes nothing.
 use mathlib.Core.Path.{◌≡◌, sym, ◌∙◌}
 use mathlib.Core.Logic.{◌⊎◌, inl, inr}
-use Prim.Native.Nat.{ℕ, ◌+◌, ◌<◌, ◌≤◌}
+use Prim.Native.Nat.{ℕ, ◌+◌, ◌-◌, ◌<◌, ◌≤◌, min}
 use native.Mathlib.Omega.{arith}
 use borrow.Author.Tests.{lt-ltb, le-ltb}
 use lib.IntN.{ℤ, pos, ◌-ℤ◌}
@@ -13,7 +13,7 @@ use Rattle.arith32.proofs.Residues.{wrap_id}
 use Rattle.pair.specs.Pair as P
 use Rattle.line.specs.Forward.{next_at}
 use Rattle.line.proofs.Lines.{lt_or_ge}
-use Rattle.forward.specs.Rows.{next_first, next_second}
+use Rattle.forward.specs.Rows.{next_first}
 use Rattle.forward.proofs.Entries.{average_pair, average_tail, next_inside, next_last}
 
 -- ---- a sample with itself
@@ -29,21 +29,13 @@ average_same x f = rw (self_off x, wrap_id (pos 0) (record { sfits = omega arith
 
 -- ---- the positions, case by case
 module _ (size i : ℕ) where
-  pub first_after : i + i + 2 < size → next_first size i ≡ i + i + 2
+  first_after : i + i + 2 < size → next_first size i ≡ i + i + 2
   unfolding next_first
   first_after h = rw (lt-ltb (i + i + 2) size h)
 
-  pub first_own : size ≤ i + i + 2 → next_first size i ≡ i + i
+  first_own : size ≤ i + i + 2 → next_first size i ≡ i + i
   unfolding next_first
   first_own h = rw (le-ltb (i + i + 2) size h)
-
-  pub second_after : i + 1 < size → next_second size i ≡ i + 1
-  unfolding next_second
-  second_after h = rw (lt-ltb (i + 1) size h)
-
-  pub second_same : size ≤ i + 1 → next_second size i ≡ i
-  unfolding next_second
-  second_same h = rw (le-ltb (i + 1) size h)
 
 pub first_inside : (size i : ℕ) → i + i + 1 < size → next_first size i < size
 first_inside size i h = by (lt_or_ge (i + i + 2) size)
@@ -52,12 +44,8 @@ first_inside size i h = by (lt_or_ge (i + i + 2) size)
     by (inl l) = rw (first_after size i l) l
     by (inr l) = rw (first_own size i l) (omega arith)
 
-pub second_inside : (size first : ℕ) → first < size → next_second size first < size
-second_inside size first h = by (lt_or_ge (first + 1) size)
-  where
-    by : (first + 1 < size) ⊎ (size ≤ first + 1) → next_second size first < size
-    by (inl l) = rw (second_after size first l) l
-    by (inr l) = rw (second_same size first l) h
+abbrev pub next_second : ℕ → ℕ → ℕ
+next_second size first = min (first + 1) (size - 1)
 
 -- ---- their average
 pub next_average_lem : (x : ℕ → ℤ) (size i : ℕ) → i + i + 1 < size → Sample (x (next_first size i))
@@ -68,11 +56,15 @@ next_average_lem x size i h f = by (lt_or_ge (i + i + 2) size) (lt_or_ge (i + i 
         → next_at x size i ≡ P.average (x (next_first size i)) (x (next_second size (next_first size i)))
     by (inl l) (inl m) =
         let e : i + 1 + (i + 1) ≡ i + i + 2 = omega arith in
-        rw (first_after size i l, second_after size (i + i + 2) (omega arith))
+        let f : next_second size (i + i + 2) ≡ i + i + 2 + 1 = omega arith in
+        rw (first_after size i l, f)
         (next_inside x size i l ∙ rw e at (average_pair x size (i + 1) (omega arith)))
     by (inl l) (inr m) =
         let e : i + 1 + (i + 1) ≡ i + i + 2 = omega arith in
-        rw (first_after size i l, second_same size (i + i + 2) (omega arith))
+        let f' : next_second size (i + i + 2) ≡ i + i + 2 = omega arith in
+        rw (first_after size i l, f')
         (next_inside x size i l ∙ rw e at (average_tail x size (i + 1) (omega arith))
         ∙ sym (average_same (x (i + i + 2)) (rw (first_after size i l) at f)))
-    by (inr l) m = rw (first_own size i l, second_after size (i + i) (omega arith)) (next_last x size i l ∙ average_pair x size i h)
+    by (inr l) m =
+        let f' : next_second size (i + i) ≡ i + i + 1 = omega arith in
+        rw (first_own size i l, f') (next_last x size i l ∙ average_pair x size i h)

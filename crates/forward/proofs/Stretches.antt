@@ -1,34 +1,28 @@
--- The entries of a stretch (`average_over`, `residual_over` and `first_over` of specs/Rows.antt) are those of their lines. The slices begin at
--- neighbouring samples of a line; x steps on stand neighbouring samples again, and samples stand for the pair after, so that the loops meet no
--- case of a line's end. Once for either direction, then along a line (across all lines: proofs/Across.antt). Assumes nothing.
+-- The entries of a stretch (`average_over` and `residual_over` of specs/Rows.antt) are those of their lines: of any line that has the stretch's samples
+-- at the places of a pair, of a line that is a slice, and of all lines across a row. Assumes nothing.
 use mathlib.Core.Path.{◌≡◌, sym, ◌∙◌}
-use mathlib.Core.Bool.{Bool, true}
-use mathlib.Core.List.{List, ◌++◌}
+use mathlib.Core.Bool.{true, false}
+use mathlib.Core.List.{List}
 use mathlib.Core.Logic.{◌⊎◌, inl, inr}
-use Prim.Native.Nat.{ℕ, ◌+◌, ◌-◌, ◌*◌, ◌<◌, ◌≤◌}
+use Prim.Native.Nat.{ℕ, zero, suc, ◌+◌, ◌-◌, ◌*◌, ◌<◌, ◌≤◌}
 use native.Mathlib.Omega.{arith}
-use native.Mathlib.Nat.{mul-le-mul_right}
+use borrow.Author.Tests.{lt-ltb, le-ltb}
 use lib.IntN.{ℤ, pos}
-use lib.ListN.{length, get_or, set, take, drop, length-drop}
-use lib.Seq.{get_or-drop}
+use lib.ListN.{length, get_or, take, drop}
+use lib.Seq.{get_or-drop, get_or-take}
 use lib.Signed.{mag}
 use Rattle.arith32.specs.Arith.{Sample}
 use Rattle.pair.specs.Pair as P
-use Rattle.line.specs.Uncut.{place}
-use Rattle.line.specs.Forward.{average_count, residual_count, average_at, next_at, residual_at, line_in}
+use Rattle.line.specs.Uncut.{table}
+use Rattle.line.specs.Forward.{average_count, residual_count, average_at, next_at, prev_at, residual_at, line_in}
 use Rattle.line.proofs.Lines.{lt_or_ge}
-use Rattle.forward.specs.Rows.{average_entry, residual_entry, joined, squeezed_entry, Put, Reach, sample_over, Read, average_over, residual_over, first_over}
-use Rattle.forward.proofs.Entries.{average_pair, next_inside, residual_pair, prev_first, prev_later, average_entry_lem, residual_entry_lem, row_room, area}
-use Rattle.forward.proofs.Puts.{joined_low, joined_high, put_both, stretch_part}
-
-pub sample_over_lem : (xs : List ℤ) (at step x j : ℕ) → at + x * step ≡ j → sample_over (drop at xs) step x ≡ get_or xs j (pos 0)
-sample_over_lem xs at step x j e = get_or-drop at xs (x * step) (pos 0) ∙ rw e
+use Rattle.line.proofs.Tables.{table_cong}
+use Rattle.forward.specs.Rows.{along, average_entry, residual_entry, sample_over, Read, average_over, residual_over, next_first}
+use Rattle.forward.proofs.Entries.{average_pair, average_tail, next_inside, residual_pair, prev_later, average_entry_lem, residual_entry_lem}
+use Rattle.forward.proofs.Nexts.{next_second, next_average_lem}
 
 -- ---- what was read, one more each turn
 module _ (step : ℕ) (xs : List ℤ) where
-  pub read_none : Read 0 step xs
-  read_none x h = absurd (omega arith)
-
   pub read_more : (n : ℕ) → mag (sample_over xs step n) < 2147483648 → Read n step xs → Read (n + 1) step xs
   read_more n m r x h = by (lt_or_ge x n)
     where
@@ -36,118 +30,144 @@ module _ (step : ℕ) (xs : List ℤ) where
       by (inl l) = r x l
       by (inr l) = let e : x ≡ n = omega arith in rw e (record { sfits = m })
 
--- ---- either direction: pair i of line k
-module _ (d : Bool) (lines size : ℕ) (xs : List ℤ) (k i step x : ℕ) where
-  pub average_over_lem : (a b : ℕ) → a + x * step ≡ place d lines size k (i + i) → b + x * step ≡ place d lines size k (i + i + 1) → i + i + 1 < size
-      → average_over (drop a xs) (drop b xs) step x ≡ average_at (line_in d lines size xs k) size i
+-- ---- pair i of a line x
+module _ (x : ℕ → ℤ) (size i : ℕ) (first second : List ℤ) (step e : ℕ) (h : i + i + 1 < size)
+    (a : sample_over first step e ≡ x (i + i)) (b : sample_over second step e ≡ x (i + i + 1)) where
+  average_over_lem : average_over first second step e ≡ average_at x size i
   unfolding average_over
-  average_over_lem a b ea eb h =
-      rw (sample_over_lem xs a step x _ ea, sample_over_lem xs b step x _ eb) (sym (average_pair (line_in d lines size xs k) size i h))
+  average_over_lem = rw (a, b) (sym (average_pair x size i h))
 
-  -- with positions j and l of the samples that stand for the pair after it
-  pub residual_over_lem : (o a b p q j l : ℕ) → o + x * step ≡ place d lines size k (i + i - 1) → a + x * step ≡ place d lines size k (i + i)
-      → b + x * step ≡ place d lines size k (i + i + 1) → p + x * step ≡ place d lines size k j → q + x * step ≡ place d lines size k l
-      → 0 < i → next_at (line_in d lines size xs k) size i ≡ P.average (line_in d lines size xs k j) (line_in d lines size xs k l)
-      → residual_over (drop o xs) (drop a xs) (drop b xs) (drop p xs) (drop q xs) step x ≡ residual_at (line_in d lines size xs k) size i
+  residual_over_lem : (before : ℕ → ℤ → ℤ) (third fourth : List ℤ) → P.average (sample_over third step e) (sample_over fourth step e) ≡ next_at x size i
+      → before (e * step) (average_at x size i) ≡ prev_at x size i
+      → residual_over before first second third fourth step e ≡ residual_at x size i
   unfolding residual_over P.residual
-  residual_over_lem o a b p q j l eo ea eb ep eq h next =
-      let line = line_in d lines size xs k in
-      let prev = prev_later line size i (λ (z : i ≡ 0). omega arith) in
-      let bo = sample_over_lem xs o step x _ eo in
-      let ba = sample_over_lem xs a step x _ ea in
-      let bb = sample_over_lem xs b step x _ eb in
-      rw (bo, ba, bb, sample_over_lem xs p step x _ ep, sample_over_lem xs q step x _ eq) (sym (residual_pair line size i ∙ rw (next, prev)))
+  residual_over_lem before third fourth next prev =
+      rw (average_over_lem, prev, next, a, b) (sym (residual_pair x size i))
 
-  -- where pair i is the first
-  pub first_over_lem : (a b p q j l : ℕ) → a + x * step ≡ place d lines size k (i + i) → b + x * step ≡ place d lines size k (i + i + 1)
-      → p + x * step ≡ place d lines size k j → q + x * step ≡ place d lines size k l
-      → i ≡ 0 → i + i + 1 < size → next_at (line_in d lines size xs k) size i ≡ P.average (line_in d lines size xs k j) (line_in d lines size xs k l)
-      → first_over (drop a xs) (drop b xs) (drop p xs) (drop q xs) step x ≡ residual_at (line_in d lines size xs k) size i
-  unfolding first_over P.residual
-  first_over_lem a b p q j l ea eb ep eq z h next =
-      let line = line_in d lines size xs k in
-      let prev = prev_first line size i z ∙ average_pair line size i h in
-      rw (sample_over_lem xs a step x _ ea, sample_over_lem xs b step x _ eb, sample_over_lem xs p step x _ ep, sample_over_lem xs q step x _ eq)
-      (sym (residual_pair line size i ∙ rw (next, prev)))
+-- ---- a line that is a slice
+module _ (line : List ℤ) where
+  -- it from sample k on
+  abbrev pub behind : ℕ → List ℤ
+  behind k = take (length line - k) (drop k line)
 
--- ---- along line y
-module _ (lines size : ℕ) (xs : List ℤ) (y : ℕ) where
-  -- where sample j of it lies, and the samples from there on
-  abbrev start : ℕ → ℕ
-  start j = place true lines size y j
-
-  abbrev rest : ℕ → List ℤ
-  rest j = drop (start j) xs
+  ahead : (k j e : ℕ) → k + e * 2 ≡ j → j < length line → sample_over (behind k) 2 e ≡ along line j
+  ahead k j e s h = get_or-take (length line - k) (drop k line) (e * 2) (pos 0) (omega arith) ∙ get_or-drop k line (e * 2) (pos 0) ∙ rw s
 
   -- the pairs behind the first
-  average_along : (x : ℕ) → x + x + 3 < size
-      → average_over (rest 2) (rest 3) 2 x ≡ average_entry true lines size xs (y * average_count size + (x + 1))
-  average_along x h =
-      average_over_lem true lines size xs y (x + 1) 2 x (start 2) (start 3) (omega arith) (omega arith) (omega arith)
-      ∙ average_entry_lem true lines size xs y (x + 1) (omega arith)
+  pub inner_average : (e : ℕ) → e + e + 3 < length line → average_over (behind 2) (behind 3) 2 e ≡ average_at (along line) (length line) (1 + e)
+  inner_average e h =
+      average_over_lem (along line) (length line) (1 + e) (behind 2) (behind 3) 2 e (omega arith)
+      (ahead 2 _ e (omega arith) (omega arith)) (ahead 3 _ e (omega arith) (omega arith))
 
-  residual_along : (x : ℕ) → x + x + 5 < size
-      → residual_over (rest 1) (rest 2) (rest 3) (rest 4) (rest 5) 2 x
-      ≡ residual_entry true lines size xs (y * residual_count size + (x + 1))
-  residual_along x h =
-      let line = line_in true lines size xs y in
-      residual_over_lem true lines size xs y (x + 1) 2 x (start 1) (start 2) (start 3) (start 4) (start 5)
-      (x + 1 + 1 + (x + 1 + 1)) (x + 1 + 1 + (x + 1 + 1) + 1) (omega arith) (omega arith) (omega arith) (omega arith) (omega arith) (omega arith)
-      (next_inside line size (x + 1) (omega arith) ∙ average_pair line size (x + 1 + 1) (omega arith))
-      ∙ residual_entry_lem true lines size xs y (x + 1) (omega arith)
+  pub inner_residual : (e : ℕ) → e + e + 5 < length line
+      → residual_over (λ i average. get_or (behind 1) i (pos 0)) (behind 2) (behind 3) (behind 4) (behind 5) 2 e
+      ≡ residual_at (along line) (length line) (1 + e)
+  inner_residual e h =
+      let n = length line in
+      residual_over_lem (along line) n (1 + e) (behind 2) (behind 3) 2 e (omega arith)
+      (ahead 2 _ e (omega arith) (omega arith)) (ahead 3 _ e (omega arith) (omega arith))
+      (λ i average. get_or (behind 1) i (pos 0)) (behind 4) (behind 5)
+      (rw (ahead 4 (1 + e + 1 + (1 + e + 1)) e (omega arith) (omega arith), ahead 5 (1 + e + 1 + (1 + e + 1) + 1) e (omega arith) (omega arith))
+      (sym (next_inside (along line) n (1 + e) (omega arith) ∙ average_pair (along line) n (1 + e + 1) (omega arith))))
+      (ahead 1 (1 + e + (1 + e) - 1) e (omega arith) (omega arith) ∙ sym (prev_later (along line) n (1 + e) (λ (z : 1 + e ≡ 0). omega arith)))
 
-  -- its averages stand at `a` of the slice of both, its residuals at `r`
-  module _ (a r : ℕ) (h : y < lines) (ea : a ≡ y * average_count size) (er : r ≡ lines * average_count size + y * residual_count size) where
-    pub line_ends : (a + average_count size ≤ lines * average_count size) × (r + residual_count size ≤ lines * size)
-    line_ends = (
-      omega (arith, row_room y lines (average_count size) h),
-      omega (arith, row_room y lines (residual_count size) h, area lines size),
-    )
+-- ---- lines that agree on their samples
+module _ (x y : ℕ → ℤ) (n : ℕ) (e : (i : ℕ) → i < n → x i ≡ y i) where
+  average_agrees : (i : ℕ) → i < average_count n → average_at x n i ≡ average_at y n i
+  unfolding average_at
+  average_agrees i h = by (lt_or_ge (i + i + 1) n)
+    where
+      by : (i + i + 1 < n) ⊎ (n ≤ i + i + 1) → average_at x n i ≡ average_at y n i
+      by (inl p) = rw (lt-ltb (i + i + 1) n p, e (i + i) (omega arith), e (i + i + 1) p)
+      by (inr p) = rw (le-ltb (i + i + 1) n p) (e (i + i) (omega arith))
 
-    pub line_average : (i j : ℕ) → i < average_count size → j ≡ a + i
-        → average_at (line_in true lines size xs y) size i ≡ squeezed_entry true lines size xs j
-    line_average i j l ej =
-        let s : y * average_count size + i ≡ j = omega arith in
-        average_entry_lem true lines size xs y i l
-        ∙ rw s (sym (joined_low (average_entry true lines size xs) (residual_entry true lines size xs) (lines * average_count size) j (omega (arith, line_ends))))
+  next_agrees : (i : ℕ) → i < average_count n → next_at x n i ≡ next_at y n i
+  unfolding next_at
+  next_agrees i h = by (lt_or_ge (i + 1) (average_count n))
+    where
+      by : (i + 1 < average_count n) ⊎ (average_count n ≤ i + 1) → next_at x n i ≡ next_at y n i
+      by (inl p) = rw (lt-ltb (i + 1) (average_count n) p) (average_agrees (i + 1) p)
+      by (inr p) = rw (le-ltb (i + 1) (average_count n) p) (average_agrees i h)
 
-    pub line_residual : (i j : ℕ) → i < residual_count size → j ≡ r + i
-        → residual_at (line_in true lines size xs y) size i ≡ squeezed_entry true lines size xs j
-    line_residual i j l ej =
-        residual_entry_lem true lines size xs y i l
-        ∙ sym (joined_high (average_entry true lines size xs) (residual_entry true lines size xs) (lines * average_count size) (y * residual_count size + i) j (omega arith))
+  prev_agrees : (i : ℕ) → i < average_count n → prev_at x n i ≡ prev_at y n i
+  unfolding prev_at
+  prev_agrees zero h = average_agrees 0 h
+  prev_agrees (suc i) h = e (i + i + 1) (omega arith)
 
-    -- one pair more
-    pub pair_put : {old out : List ℤ} (i p q : ℕ) (v w : ℤ) → length old ≡ lines * size → i < residual_count size → p ≡ a + i → q ≡ r + i
-        → v ≡ average_at (line_in true lines size xs y) size i → w ≡ residual_at (line_in true lines size xs y) size i
-        → Put (squeezed_entry true lines size xs) a i r i old out → Put (squeezed_entry true lines size xs) a (i + 1) r (i + 1) old (set (set out p v) q w)
-    pair_put i p q v w eo l ep eq ev ew put =
-        let ends = line_ends in
-        put_both (squeezed_entry true lines size xs) p q v w put ep eq (omega arith) (omega arith)
-        (ev ∙ line_average i p (omega arith) ep) (ew ∙ line_residual i q l eq)
+  residual_agrees : (i : ℕ) → i < residual_count n → residual_at x n i ≡ residual_at y n i
+  unfolding residual_at
+  residual_agrees i h = rw (e (i + i) (omega arith), e (i + i + 1) (omega arith), next_agrees i (omega arith), prev_agrees i (omega arith))
 
-    -- what a stretch of n pairs behind the first puts there
-    pub line_put : (n k : ℕ) (old part : List ℤ) → n + 2 ≤ residual_count size → length old ≡ lines * size → a + 1 + k ≡ length old
-        → Put (joined (average_over (rest 2) (rest 3) 2) (residual_over (rest 1) (rest 2) (rest 3) (rest 4) (rest 5) 2) (r - a)) 0 n (r - a) n
-        (take k (drop (a + 1) old)) part
-        → Put (squeezed_entry true lines size xs) (a + 1) n (r + 1) n old (take (a + 1) old ++ (part ++ drop k (drop (a + 1) old)))
-    line_put n k old part l eo ek p =
-        let ends = line_ends in
-        stretch_part (average_over (rest 2) (rest 3) 2) (residual_over (rest 1) (rest 2) (rest 3) (rest 4) (rest 5) 2)
-        (average_entry true lines size xs) (residual_entry true lines size xs) (r - a) n (lines * average_count size) (a + 1) (y * residual_count size + 1)
-        k old part (omega arith) (omega arith) (omega arith) (omega arith) (omega arith) (omega arith)
-        (λ x g. let s : y * average_count size + (x + 1) ≡ a + 1 + x = omega arith in rw s at (average_along x (omega arith)))
-        (λ x g.
-        let s : y * residual_count size + (x + 1) ≡ y * residual_count size + 1 + x = omega arith in
-        rw s at (residual_along x (omega arith)))
-        p
+-- ---- rows of a slice
+module _ (count width : ℕ) (xs : List ℤ) where
+  abbrev pub row : ℕ → List ℤ
+  row j = take width (drop (j * width) xs)
 
--- ---- the slices begin inside, and reach far enough
-module _ (lines size : ℕ) (xs : List ℤ) (e : length xs ≡ lines * size) where
-  pub line_room : (y j : ℕ) → y < lines → j ≤ size → place true lines size y j ≤ length xs
-  line_room y j h l = let r : (y + 1) * size ≤ lines * size = mul-le-mul_right size (omega arith) in omega arith
+  -- line y of a horizontal squeeze
+  pub line_average : (y x : ℕ) → y < count → x < average_count width
+      → average_at (along (row y)) width x ≡ average_entry true count width xs (y * average_count width + x)
+  line_average y x h l =
+      average_agrees (along (row y)) (line_in true count width xs y) width
+      (λ i p. get_or-take width (drop (y * width) xs) i (pos 0) p ∙ get_or-drop (y * width) xs i (pos 0)) x l
+      ∙ average_entry_lem true count width xs y x l
 
-  pub reach_along : (y j n : ℕ) → y < lines → j + n + n ≤ size + 1 → Reach n 2 (drop (place true lines size y j) xs)
-  reach_along y j n h l x p =
-      let r : (y + 1) * size ≤ lines * size = mul-le-mul_right size (omega arith) in
-      omega (arith, length-drop (place true lines size y j) xs)
+  pub line_residual : (y x : ℕ) → y < count → x < residual_count width
+      → residual_at (along (row y)) width x ≡ residual_entry true count width xs (y * residual_count width + x)
+  line_residual y x h l =
+      residual_agrees (along (row y)) (line_in true count width xs y) width
+      (λ i p. get_or-take width (drop (y * width) xs) i (pos 0) p ∙ get_or-drop (y * width) xs i (pos 0)) x l
+      ∙ residual_entry_lem true count width xs y x l
+
+  -- line e of a vertical one, and its sample j
+  abbrev line : ℕ → ℕ → ℤ
+  line e = line_in false width count xs e
+
+  across : (j e : ℕ) → e < width → sample_over (row j) 1 e ≡ line_in false width count xs e j
+  across j e l =
+      let s : e * 1 ≡ e = omega arith in
+      rw s (get_or-take width (drop (j * width) xs) e (pos 0) l ∙ get_or-drop (j * width) xs e (pos 0))
+
+  -- the row of tails, behind n pairs
+  pub row_tail : (n e : ℕ) → count ≡ n + n + 1 → e < width → get_or (row (n + n)) e (pos 0) ≡ average_entry false width count xs (n * width + e)
+  row_tail n e s l =
+      get_or-take width (drop ((n + n) * width) xs) e (pos 0) l ∙ get_or-drop ((n + n) * width) xs e (pos 0)
+      ∙ sym (average_tail (line_in false width count xs e) count n (omega arith)) ∙ average_entry_lem false width count xs n e l
+
+  -- ---- pair y of all lines, in slices of its samples and of what stands for the pair after it
+  module _ (y : ℕ) (h : y + y + 1 < count) (first second : List ℤ) (a : first ≡ row (y + y)) (b : second ≡ row (y + y + 1)) where
+    first_at : (e : ℕ) → e < width → sample_over first 1 e ≡ line e (y + y)
+    first_at e l = rw a (across (y + y) e l)
+
+    second_at : (e : ℕ) → e < width → sample_over second 1 e ≡ line e (y + y + 1)
+    second_at e l = rw b (across (y + y + 1) e l)
+
+    pub row_averages : table (average_over first second 1) 0 width ≡ table (average_entry false width count xs) (y * width) width
+    row_averages =
+        table_cong (average_over first second 1) (average_entry false width count xs) 0 (y * width) width
+        (λ e l.
+        let z : 0 + e ≡ e = omega arith in
+        rw z (average_over_lem (line e) count y first second 1 e h (first_at e l) (second_at e l) ∙ average_entry_lem false width count xs y e l))
+
+    pub row_residuals : (third fourth : List ℤ) → third ≡ row (next_first count y) → fourth ≡ row (next_second count (next_first count y)) → Read width 1 third
+        → (before : ℕ → ℤ → ℤ)
+        → ((e : ℕ) → e < width → before (e * 1) (average_at (line_in false width count xs e) count y) ≡ prev_at (line_in false width count xs e) count y)
+        → table (residual_over before first second third fourth 1) 0 width ≡ table (residual_entry false width count xs) (y * width) width
+    row_residuals third fourth p q read before prev =
+        table_cong (residual_over before first second third fourth 1) (residual_entry false width count xs) 0 (y * width) width
+        (λ e l.
+        let z : 0 + e ≡ e = omega arith in
+        rw z
+        (residual_over_lem (line e) count y first second 1 e h (first_at e l) (second_at e l) before third fourth (next e l) (prev e l)
+        ∙ residual_entry_lem false width count xs y e l))
+      where
+        next : (e : ℕ) → e < width → P.average (sample_over third 1 e) (sample_over fourth 1 e) ≡ next_at (line_in false width count xs e) count y
+        next e l =
+            let j = next_first count y in
+            let s : sample_over third 1 e ≡ line e j = rw p (across j e l) in
+            let t : sample_over fourth 1 e ≡ line e (next_second count j) = rw q (across (next_second count j) e l) in
+            rw (s, t) (sym (next_average_lem (line e) count y h (rw s at (read e l))))
+
+    -- where the pair is not the first
+    pub row_before : (before : List ℤ) → before ≡ row (y + y - 1) → (y ≡ 0 → ⊥)
+        → (e : ℕ) → e < width → get_or before (e * 1) (pos 0) ≡ prev_at (line_in false width count xs e) count y
+    row_before before p z e l = rw p (across (y + y - 1) e l) ∙ sym (prev_later (line e) count y z)

@@ -1,357 +1,375 @@
-// The writer's averages and residuals of a channel (document 01, "Whole runs"),
-// in one slice, the averages first: total, a call whose slices do not fit leaves
-// the output as it was. Both are written together and row by row, so that a sample
-// is read from memory once, along the rows of the samples that the entries are
-// made of, in either direction.
+// The writer's averages and residuals of a channel, in one slice, the averages
+// first: total, a call whose slices do not fit leaves the output as it was. Both
+// are written together and row by row, so that a sample is read from memory once,
+// along the rows of the samples that the entries are made of, in either direction.
 #![tactic(auto)]
 
-ghost use Rattle.std.specs.Prelude.{◌≡◌, true, false, ◌++◌, ◌+◌, ◌*◌, ◌/◌, ◌<◌, ◌≤◌, length, drop};
-ghost use Rattle.line.specs.Uncut.{place};
-ghost use Rattle.line.specs.Forward.{average_count, residual_count, average_at, next_at, prev_at, residual_at, line_in, averages_of, residuals_of};
+ghost use Rattle.std.specs.Prelude.{◌≡◌, ℕ, ℤ, pos, true, false, ◌++◌, ◌+◌, ◌*◌, ◌/◌, ◌<◌, ◌≤◌, length, get_or, take, drop, min, ◌-◌};
+ghost use Rattle.line.specs.Uncut.{table};
+ghost use Rattle.line.specs.Forward.{average_count, residual_count, average_at, next_at, prev_at, residual_at, averages_of, residuals_of};
 ghost use Rattle.forward.specs.Into.{slices_fit, squeezed_into};
-ghost use Rattle.forward.specs.Rows.{squeezed_entry, joined, Put, Reach, Read, average_over, residual_over, first_over, next_first, next_second};
+ghost use Rattle.forward.specs.Rows.{along, Filled, average_entry, residual_entry, Reach, Read, average_over, residual_over, next_first};
 
 use numbers::MAX_SIDE;
+use tendency::{Branching, Branchless};
 
-fn slices_fit(lines: usize, size: usize, xs: &[i32], out: &[i32]) -> bool
-    ensures { result ≡ slices_fit lines size xs.now out.now }
-{
-    if MAX_SIDE < lines {
-        return false;
-    }
-    if MAX_SIDE < size {
-        return false;
-    }
-    let samples = lines * size;
-    (xs.len() == samples) & (out.len() == samples)
+// So many rows of `width` samples each, in one slice: the lines of a horizontal
+// squeeze, or sample i of each line of a vertical one in row i.
+#[derive(Drop)]
+struct Rows<'a> {
+    count: usize,
+    width: usize,
+    samples: &'a [i32],
+    ghost whole: { length samples.now ≡ count * width },
 }
 
-// Sample i of line k of a horizontal squeeze, and what else stands at a single
-// place of the line, by the rule with its cases at the line's ends.
-fn sample_at(lines: usize, size: usize, xs: &[i32], k: usize, i: usize) -> i32
-    requires { (length xs.now ≡ lines * size) × (k < lines) × (i < size) }
-    ensures { result ≡ line_in true lines size xs.now k i }
-{
-    xs[k * size + i]
+impl<'a> Rows<'a> {
+    fn row(&self, j: usize) -> &'a [i32]
+        requires { j < self.now.count }
+        ensures value { result.now ≡ take self.now.width (drop (j * self.now.width) self.now.samples.now) }
+        ensures wide { length result.now ≡ self.now.width }
+    {
+        &self.samples[j * self.width..j * self.width + self.width]
+    }
 }
 
-fn average_at(lines: usize, size: usize, xs: &[i32], k: usize, i: usize) -> i32
-    requires { (length xs.now ≡ lines * size) × (k < lines) × (i + i < size) }
-    ensures { result ≡ average_at (line_in true lines size xs.now k) size i }
-{
-    let first = sample_at(lines, size, xs, k, i + i);
-    if size - (i + i) < 2 {
-        return first;
+// What stands before the pairs of a stretch.
+trait Before {
+    // what stands before the pair at a place, whose average is given
+    ghost value: { Self → ℕ → ℤ → ℤ };
+    // the places that have it
+    ghost has: { Self → ℕ → Type 0 };
+
+    fn at(&self, i: usize, average: i32) -> i32
+        requires { has self.now i }
+        ensures { result ≡ value self.now i average };
+}
+
+// The sample there.
+#[derive(Drop)]
+struct Neighbours<'a> {
+    samples: &'a [i32],
+}
+
+impl Before for Neighbours<'_> {
+    ghost value = { λ s i average. get_or s.samples.now i (pos 0) };
+
+    ghost has = { λ s i. i < length s.samples.now };
+
+    fn at(&self, i: usize, _average: i32) -> i32 {
+        self.samples[i]
     }
-    let pair = pair::squeeze(first, sample_at(lines, size, xs, k, i + i + 1));
-    pair.average
+}
+
+// The own average, where pairs begin their lines.
+#[derive(Drop)]
+struct OwnAverage;
+
+impl Before for OwnAverage {
+    ghost value = { λ s i average. average };
+
+    ghost has = { λ s i. Unit {0} };
+
+    fn at(&self, _i: usize, average: i32) -> i32 {
+        average
+    }
+}
+
+// A run of `count` pairs of a row, `STEP` from each other: `first` and `second`
+// have their samples, `third` and `fourth` the pair after each or what stands for
+// that. The loop over them asks neither for the direction nor for a line's end, so
+// that it can become vector code; the compiler knows STEP, else the samples would
+// be gathered one by one.
+#[derive(Drop)]
+struct Stretch<'a, const STEP: usize> {
+    count: usize,
+    first: &'a [i32],
+    second: &'a [i32],
+    third: &'a [i32],
+    fourth: &'a [i32],
+    ghost reach: { Reach count STEP first.now × Reach count STEP second.now × Reach count STEP third.now × Reach count STEP fourth.now },
+}
+
+impl<const STEP: usize> Stretch<'_, STEP> {
+    // Only what was read is known to be 32-bit samples, hence the last fact of the
+    // contract, which a caller needs that has a sample twice stand for a pair.
+    fn squeeze<B: Before + Drop>(&self, before: B, averages: &mut [i32], residuals: &mut [i32])
+        requires { ((x : ℕ) → x < self.now.count → B.has before (x * STEP)) × (length averages.old ≡ self.now.count) × (length residuals.old ≡ self.now.count) }
+        ensures made { averages.new ≡ table (average_over self.now.first.now self.now.second.now STEP) 0 self.now.count }
+        ensures left { residuals.new ≡ table (residual_over (B.value before) self.now.first.now self.now.second.now self.now.third.now self.now.fourth.now STEP) 0 self.now.count }
+        ensures read { Read self.now.count STEP self.now.third.now }
+    {
+        for x in 0..self.count {
+            let i = x * STEP;
+            let own = pair::squeeze(self.first[i], self.second[i]);
+            let next = pair::squeeze(self.third[i], self.fourth[i]);
+            let average = own.average;
+            averages[x] = average;
+            residuals[x] = pair::residual::<Branchless>(
+                own.difference,
+                average,
+                next.average,
+                before.at(i, average),
+            );
+        }
+    }
+}
+
+// Average i of a line, whose odd last sample is the tail. This function and the
+// three below have the rule's cases at the line's ends, which no stretch has.
+#[tactic(auto, unfolding(line::specs::Forward::average_at))]
+fn average_at(line: &[i32], i: usize) -> i32
+    requires { i + i < length line.now }
+    ensures { result ≡ average_at (along line.now) (length line.now) i }
+{
+    let first = line[i + i];
+    if i + i + 1 < line.len() {
+        pair::squeeze(first, line[i + i + 1]).average
+    } else {
+        first
+    }
 }
 
 // The average after that of pair i, which is given.
-fn next_at(lines: usize, size: usize, xs: &[i32], k: usize, i: usize, own: i32) -> i32
-    requires { (length xs.now ≡ lines * size) × (k < lines) × (i + i + 1 < size) × (own ≡ average_at (line_in true lines size xs.now k) size i) }
-    ensures { result ≡ next_at (line_in true lines size xs.now k) size i }
+#[tactic(auto, unfolding(line::specs::Forward::next_at))]
+fn next_at(line: &[i32], i: usize, own: i32) -> i32
+    requires { (i + i + 1 < length line.now) × (own ≡ average_at (along line.now) (length line.now) i) }
+    ensures { result ≡ next_at (along line.now) (length line.now) i }
 {
-    if i + i + 2 < size {
-        average_at(lines, size, xs, k, i + 1)
+    if i + i + 2 < line.len() {
+        average_at(line, i + 1)
     } else {
         own
     }
 }
 
 // The sample before pair i, whose average is given.
-fn prev_at(lines: usize, size: usize, xs: &[i32], k: usize, i: usize, own: i32) -> i32
-    requires { (length xs.now ≡ lines * size) × (k < lines) × (i + i + 1 < size) × (own ≡ average_at (line_in true lines size xs.now k) size i) }
-    ensures { result ≡ prev_at (line_in true lines size xs.now k) size i }
+#[tactic(auto, unfolding(line::specs::Forward::prev_at))]
+fn prev_at(line: &[i32], i: usize, own: i32) -> i32
+    requires { (i + i + 1 < length line.now) × (own ≡ average_at (along line.now) (length line.now) i) }
+    ensures { result ≡ prev_at (along line.now) (length line.now) i }
 {
-    if i == 0 {
-        own
-    } else {
-        sample_at(lines, size, xs, k, i + i - 1)
-    }
+    if i == 0 { own } else { line[i + i - 1] }
 }
 
-fn residual_at(lines: usize, size: usize, xs: &[i32], k: usize, i: usize) -> i32
-    requires { (length xs.now ≡ lines * size) × (k < lines) × (i + i + 1 < size) }
-    ensures { result ≡ residual_at (line_in true lines size xs.now k) size i }
+#[tactic(auto, unfolding(line::specs::Forward::residual_at, pair::specs::Pair::residual, line::specs::Forward::average_at))]
+fn residual_at(line: &[i32], i: usize) -> i32
+    requires { i + i + 1 < length line.now }
+    ensures { result ≡ residual_at (along line.now) (length line.now) i }
 {
-    let pair = pair::squeeze(
-        sample_at(lines, size, xs, k, i + i),
-        sample_at(lines, size, xs, k, i + i + 1),
-    );
+    let pair = pair::squeeze(line[i + i], line[i + i + 1]);
     let own = pair.average;
-    let difference = pair.difference;
-    pair::residual(
-        difference,
+    pair::residual::<Branching>(
+        pair.difference,
         own,
-        next_at(lines, size, xs, k, i, own),
-        prev_at(lines, size, xs, k, i, own),
+        next_at(line, i, own),
+        prev_at(line, i, own),
     )
 }
 
-// The samples from sample i of line k on.
-fn samples_from<'a>(
-    horizontal: bool,
-    lines: usize,
-    size: usize,
-    xs: &'a [i32],
-    k: usize,
-    i: usize,
-) -> &'a [i32]
-    requires { place horizontal lines size k i ≤ length xs.now }
-    ensures { result.now ≡ drop (place horizontal lines size k i) xs.now }
+// A line: the first and the last pair stand at its ends, and its tail is the last
+// average. A residual is made before its average is stored, so that the compiler
+// makes the pair once.
+fn squeeze_line(line: &[i32], averages: &mut [i32], residuals: &mut [i32])
+    requires { (length averages.old ≡ average_count (length line.now)) × (length residuals.old ≡ residual_count (length line.now)) }
+    ensures made { averages.new ≡ table (average_at (along line.now) (length line.now)) 0 (average_count (length line.now)) }
+    ensures left { residuals.new ≡ table (residual_at (along line.now) (length line.now)) 0 (residual_count (length line.now)) }
 {
-    if horizontal {
-        &xs[k * size + i..]
-    } else {
-        &xs[i * lines + k..]
-    }
-}
-
-// A stretch is a run of `n` entries of a row whose pairs lie inside their lines
-// and have a pair before them: `before` has the sample before each pair, `third`
-// and `fourth` the pair after it or what stands for that. The averages go to the
-// front of `out`, the residuals to its place `r` and on. The loop asks neither for
-// the direction nor for a line's end, so that it can become vector code. It takes
-// a slice for each sample and not one slice and places in it, which keeps it
-// small enough to be compiled for each `step` by itself; else the samples would be
-// gathered one by one. Only what was read is known to be 32-bit samples, hence
-// the last fact of the contract, which a caller needs that has a sample twice
-// stand for a pair.
-fn squeeze_stretch(
-    before: &[i32],
-    first: &[i32],
-    second: &[i32],
-    third: &[i32],
-    fourth: &[i32],
-    step: usize,
-    n: usize,
-    r: usize,
-    out: &mut [i32],
-)
-    requires { Reach n step before.now × Reach n step first.now × Reach n step second.now × Reach n step third.now × Reach n step fourth.now × (n ≤ r) × (r + n ≤ length out.old) }
-    ensures { Put (joined (average_over first.now second.now step) (residual_over before.now first.now second.now third.now fourth.now step) r) 0 n r n out.old out.new × Read n step third.now }
-{
-    for x in 0..n {
-        let i = x * step;
-        let own = pair::squeeze(first[i], second[i]);
-        let next = pair::squeeze(third[i], fourth[i]);
-        let difference = own.difference;
-        let average = own.average;
-        let after = next.average;
-        out[x] = average;
-        out[r + x] = pair::residual_lane(difference, average, after, before[i]);
-    }
-}
-
-// The same for pairs that begin their lines: the own average stands before them.
-fn first_stretch(
-    first: &[i32],
-    second: &[i32],
-    third: &[i32],
-    fourth: &[i32],
-    step: usize,
-    n: usize,
-    r: usize,
-    out: &mut [i32],
-)
-    requires { Reach n step first.now × Reach n step second.now × Reach n step third.now × Reach n step fourth.now × (n ≤ r) × (r + n ≤ length out.old) }
-    ensures { Put (joined (average_over first.now second.now step) (first_over first.now second.now third.now fourth.now step) r) 0 n r n out.old out.new × Read n step third.now }
-{
-    for x in 0..n {
-        let i = x * step;
-        let own = pair::squeeze(first[i], second[i]);
-        let next = pair::squeeze(third[i], fourth[i]);
-        let difference = own.difference;
-        let average = own.average;
-        let after = next.average;
-        out[x] = average;
-        out[r + x] = pair::residual_lane(difference, average, after, average);
-    }
-}
-
-// Line y of a horizontal squeeze, whose averages stand at `a` and whose residuals
-// at `r`: the first and the last pair stand at the line's ends, and its tail is
-// the last average.
-fn squeeze_line(
-    lines: usize,
-    size: usize,
-    xs: &[i32],
-    y: usize,
-    a: usize,
-    r: usize,
-    out: &mut [i32],
-)
-    requires { (length xs.now ≡ lines * size) × (length out.old ≡ lines * size) × (y < lines) × (a ≡ y * average_count size) × (r ≡ lines * average_count size + y * residual_count size) }
-    ensures { Put (squeezed_entry true lines size xs.now) a (average_count size) r (residual_count size) out.old out.new }
-{
-    let n = size / 2;
+    let n = line.len() / 2;
     if 0 < n {
-        out[a] = average_at(lines, size, xs, y, 0);
-        out[r] = residual_at(lines, size, xs, y, 0);
+        let residual = residual_at(line, 0);
+        averages[0] = average_at(line, 0);
+        residuals[0] = residual;
     }
     if 2 < n {
-        squeeze_stretch(
-            samples_from(true, lines, size, xs, y, 1),
-            samples_from(true, lines, size, xs, y, 2),
-            samples_from(true, lines, size, xs, y, 3),
-            samples_from(true, lines, size, xs, y, 4),
-            samples_from(true, lines, size, xs, y, 5),
-            2,
-            n - 2,
-            r - a,
-            &mut out[a + 1..],
+        let inner = Stretch::<2> {
+            count: n - 2,
+            first: &line[2..],
+            second: &line[3..],
+            third: &line[4..],
+            fourth: &line[5..],
+        };
+        inner.squeeze(
+            Neighbours {
+                samples: &line[1..],
+            },
+            &mut averages[1..n - 1],
+            &mut residuals[1..n - 1],
         );
     }
     if 1 < n {
-        out[a + n - 1] = average_at(lines, size, xs, y, n - 1);
-        out[r + n - 1] = residual_at(lines, size, xs, y, n - 1);
+        let residual = residual_at(line, n - 1);
+        averages[n - 1] = average_at(line, n - 1);
+        residuals[n - 1] = residual;
     }
-    if n + n < size {
-        out[a + n] = average_at(lines, size, xs, y, n);
+    if n + n < line.len() {
+        averages[n] = line[n + n];
     }
 }
 
-// Pair y of all lines of a vertical squeeze, where it is neither the first nor
-// the last; the residuals of a pair stand `r` behind its averages.
-fn squeeze_pairs(lines: usize, size: usize, xs: &[i32], y: usize, r: usize, out: &mut [i32])
-    requires { (length xs.now ≡ lines * size) × (length out.old ≡ lines * size) × (r ≡ lines * average_count size) × (0 < y) × (y + y + 3 < size) }
-    ensures { Put (squeezed_entry false lines size xs.now) (y * lines) lines (r + y * lines) lines out.old out.new }
-{
-    squeeze_stretch(
-        samples_from(false, lines, size, xs, 0, y + y - 1),
-        samples_from(false, lines, size, xs, 0, y + y),
-        samples_from(false, lines, size, xs, 0, y + y + 1),
-        samples_from(false, lines, size, xs, 0, y + y + 2),
-        samples_from(false, lines, size, xs, 0, y + y + 3),
-        1,
-        lines,
-        r,
-        &mut out[y * lines..],
-    );
-}
-
-// What stands for the pair after pair i: that pair, or the tail twice, since the
-// average of a sample with itself is that sample, or pair i itself where the line
-// ends with it. So a row at the lines' ends is a stretch too, and its loop asks
-// nothing. This is the place of the first sample.
+// The position of the first sample of what stands for the pair after pair i: that
+// pair, or the tail twice, since the average of a sample with itself is that
+// sample, or pair i itself where the line ends with it. So a row at the lines'
+// ends is a stretch too, and its loop asks nothing.
+#[tactic(auto, unfolding(crate::specs::Rows::next_first))]
 fn next_first(size: usize, i: usize) -> usize
     requires { i + i + 1 < size }
-    ensures { result ≡ next_first size i }
+    ensures value { result ≡ next_first size i }
+    ensures inside { result < size }
 {
     if i + i + 2 < size { i + i + 2 } else { i + i }
 }
 
-// The place of the second.
-fn next_second(size: usize, first: usize) -> usize
-    requires { first < size }
-    ensures { result ≡ next_second size first }
-{
-    if first + 1 < size { first + 1 } else { first }
-}
-
-// The first pair of all lines.
-fn first_pairs(lines: usize, size: usize, xs: &[i32], r: usize, out: &mut [i32])
-    requires { (length xs.now ≡ lines * size) × (length out.old ≡ lines * size) × (r ≡ lines * average_count size) × (1 < size) }
-    ensures { Put (squeezed_entry false lines size xs.now) 0 lines r lines out.old out.new }
-{
-    let third = next_first(size, 0);
-    let fourth = next_second(size, third);
-    first_stretch(
-        samples_from(false, lines, size, xs, 0, 0),
-        samples_from(false, lines, size, xs, 0, 1),
-        samples_from(false, lines, size, xs, 0, third),
-        samples_from(false, lines, size, xs, 0, fourth),
-        1,
-        lines,
-        r,
-        out,
-    );
-}
-
-// Pair `last`, which is not the first.
-fn last_pairs(lines: usize, size: usize, xs: &[i32], last: usize, r: usize, out: &mut [i32])
-    requires { (length xs.now ≡ lines * size) × (length out.old ≡ lines * size) × (r ≡ lines * average_count size) × (0 < last) × (last + last + 1 < size) }
-    ensures { Put (squeezed_entry false lines size xs.now) (last * lines) lines (r + last * lines) lines out.old out.new }
-{
-    let third = next_first(size, last);
-    let fourth = next_second(size, third);
-    squeeze_stretch(
-        samples_from(false, lines, size, xs, 0, last + last - 1),
-        samples_from(false, lines, size, xs, 0, last + last),
-        samples_from(false, lines, size, xs, 0, last + last + 1),
-        samples_from(false, lines, size, xs, 0, third),
-        samples_from(false, lines, size, xs, 0, fourth),
-        1,
-        lines,
-        r,
-        &mut out[last * lines..],
-    );
-}
-
-fn squeeze_along(lines: usize, size: usize, xs: &[i32], out: &mut [i32])
-    requires { (length xs.now ≡ lines * size) × (length out.old ≡ lines * size) }
-    ensures { out.new ≡ averages_of true lines size xs.now ++ residuals_of true lines size xs.now }
-{
-    let rest = size / 2;
-    let count = size - rest;
-    let averages = lines * count;
-    for y in 0..lines {
-        squeeze_line(lines, size, xs, y, y * count, averages + y * rest, out);
+impl Rows<'_> {
+    // All lines; those of one sample are tails alone.
+    fn squeeze_along(&self, averages: &mut [i32], residuals: &mut [i32])
+        requires { (length averages.old ≡ self.now.count * average_count self.now.width) × (length residuals.old ≡ self.now.count * residual_count self.now.width) }
+        ensures made { averages.new ≡ averages_of true self.now.count self.now.width self.now.samples.now }
+        ensures left { residuals.new ≡ residuals_of true self.now.count self.now.width self.now.samples.now }
+    {
+        if self.width < 2 {
+            averages.copy_from_slice(self.samples);
+            return;
+        }
+        let rest = self.width / 2;
+        let count = self.width - rest;
+        for y in 0..self.count {
+            squeeze_line(
+                self.row(y),
+                &mut averages[y * count..y * count + count],
+                &mut residuals[y * rest..y * rest + rest],
+            );
+        }
     }
-}
 
-// The rows of pairs. The first and the last stand at the lines' ends and are left
-// out of the loop: before the first turn the compiler has it tested once that all
-// that is read lies apart from all that is written, and takes every turn to read
-// as many rows.
-fn pairs_across(lines: usize, size: usize, xs: &[i32], r: usize, out: &mut [i32])
-    requires { (length xs.now ≡ lines * size) × (length out.old ≡ lines * size) × (r ≡ lines * average_count size) }
-    ensures { Put (squeezed_entry false lines size xs.now) 0 (size / 2 * lines) r (size / 2 * lines) out.old out.new }
-{
-    let n = size / 2;
-    if n == 0 {
-        return;
+    // Pair y of all lines of a vertical squeeze, with the positions of what stands for
+    // the pair after it.
+    #[inline(always)]
+    fn squeeze_row(
+        &self,
+        y: usize,
+        third: usize,
+        fourth: usize,
+        averages: &mut [i32],
+        residuals: &mut [i32],
+    )
+        requires pair { y + y + 1 < self.now.count }
+        requires after { (third ≡ next_first self.now.count y) × (fourth ≡ min (third + 1) (self.now.count - 1)) }
+        requires room { (length averages.old ≡ self.now.width) × (length residuals.old ≡ self.now.width) }
+        ensures made { averages.new ≡ table (average_entry false self.now.width self.now.count self.now.samples.now) (y * self.now.width) self.now.width }
+        ensures left { residuals.new ≡ table (residual_entry false self.now.width self.now.count self.now.samples.now) (y * self.now.width) self.now.width }
+    {
+        let pairs = Stretch::<1> {
+            count: self.width,
+            first: self.row(y + y),
+            second: self.row(y + y + 1),
+            third: self.row(third),
+            fourth: self.row(fourth),
+        };
+        if y == 0 {
+            pairs.squeeze(OwnAverage, averages, residuals);
+        } else {
+            let samples = self.row(y + y - 1);
+            pairs.squeeze(Neighbours { samples }, averages, residuals);
+        }
     }
-    first_pairs(lines, size, xs, r, out);
-    if n == 1 {
-        return;
-    }
-    let last = n - 1;
-    for y in 1..last {
-        squeeze_pairs(lines, size, xs, y, r, out);
-    }
-    last_pairs(lines, size, xs, last, r, out);
-}
 
-// The rows of pairs, then the row of tails.
-fn squeeze_across(lines: usize, size: usize, xs: &[i32], out: &mut [i32])
-    requires { (length xs.now ≡ lines * size) × (length out.old ≡ lines * size) }
-    ensures { out.new ≡ averages_of false lines size xs.now ++ residuals_of false lines size xs.now }
-{
-    let n = size / 2;
-    let r = lines * (size - n);
-    pairs_across(lines, size, xs, r, out);
-    if n + n < size {
-        buffer::copy(
-            samples_from(false, lines, size, xs, 0, n + n),
-            &mut out[n * lines..r],
+    // The same of a pair that may stand at the lines' ends.
+    fn end_row(&self, y: usize, averages: &mut [i32], residuals: &mut [i32])
+        requires pair { y + y + 1 < self.now.count }
+        requires room { (length averages.old ≡ self.now.width) × (length residuals.old ≡ self.now.width) }
+        ensures made { averages.new ≡ table (average_entry false self.now.width self.now.count self.now.samples.now) (y * self.now.width) self.now.width }
+        ensures left { residuals.new ≡ table (residual_entry false self.now.width self.now.count self.now.samples.now) (y * self.now.width) self.now.width }
+    {
+        let third = next_first(self.count, y);
+        let fourth = (third + 1).min(self.count - 1);
+        self.squeeze_row(y, third, fourth, averages, residuals);
+    }
+
+    // The rows of pairs. The first and the last are left out of the loop and a turn is
+    // no call, so that all turns read at places of one form: the compiler then tests
+    // once, before the first turn, that all that is read lies apart from all that is
+    // written.
+    #[tactic(auto, unfolding(crate::specs::Rows::next_first))]
+    fn pairs_across(&self, averages: &mut [i32], residuals: &mut [i32])
+        requires { (length averages.old ≡ self.now.width * average_count self.now.count) × (length residuals.old ≡ self.now.width * residual_count self.now.count) }
+        ensures made { Filled (average_entry false self.now.width self.now.count self.now.samples.now) (self.now.count / 2 * self.now.width) averages.new }
+        ensures left { Filled (residual_entry false self.now.width self.now.count self.now.samples.now) (self.now.count / 2 * self.now.width) residuals.new }
+    {
+        let width = self.width;
+        let n = self.count / 2;
+        if n == 0 {
+            return;
+        }
+        self.end_row(0, &mut averages[..width], &mut residuals[..width]);
+        if n == 1 {
+            return;
+        }
+        let last = n - 1;
+        for y in 1..last {
+            self.squeeze_row(
+                y,
+                y + y + 2,
+                y + y + 3,
+                &mut averages[y * width..y * width + width],
+                &mut residuals[y * width..y * width + width],
+            );
+        }
+        self.end_row(
+            last,
+            &mut averages[last * width..last * width + width],
+            &mut residuals[last * width..last * width + width],
         );
     }
+
+    // The rows of pairs, then the row of tails.
+    fn squeeze_across(&self, averages: &mut [i32], residuals: &mut [i32])
+        requires { (length averages.old ≡ self.now.width * average_count self.now.count) × (length residuals.old ≡ self.now.width * residual_count self.now.count) }
+        ensures made { averages.new ≡ averages_of false self.now.width self.now.count self.now.samples.now }
+        ensures left { residuals.new ≡ residuals_of false self.now.width self.now.count self.now.samples.now }
+    {
+        self.pairs_across(averages, residuals);
+        let n = self.count / 2;
+        if n + n < self.count {
+            averages[n * self.width..].copy_from_slice(self.row(n + n));
+        }
+    }
+}
+
+// No side above the limit, so that the lengths can be told. It takes a call's own
+// numbers and slices, since only those that fit are rows.
+#[tactic(auto, unfolding(crate::specs::Into::slices_fit))]
+fn slices_fit(lines: usize, size: usize, xs: &[i32], out: &[i32]) -> bool
+    ensures value { result ≡ slices_fit lines size xs.now out.now }
+    ensures lengths { result ≡ true → (length xs.now ≡ lines * size) × (length out.now ≡ lines * size) }
+{
+    lines <= MAX_SIDE && size <= MAX_SIDE && xs.len() == lines * size && out.len() == lines * size
 }
 
 // The averages, then the residuals, of so many lines of `size` samples each: along
 // the rows of a slice where the squeeze is horizontal, down its columns where it
 // is vertical.
+#[tactic(auto, using(crate::proofs::Entries::area, crate::proofs::Entries::halves), unfolding(crate::specs::Into::squeezed_into))]
 pub fn squeeze_lines(horizontal: bool, lines: usize, size: usize, xs: &[i32], out: &mut [i32])
     ensures { out.new ≡ squeezed_into horizontal lines size xs.now out.old }
 {
     if !slices_fit(lines, size, xs, out) {
         return;
     }
+    let (averages, residuals) = out.split_at_mut(lines * (size - size / 2));
     if horizontal {
-        squeeze_along(lines, size, xs, out);
+        let rows = Rows {
+            count: lines,
+            width: size,
+            samples: xs,
+        };
+        rows.squeeze_along(averages, residuals);
     } else {
-        squeeze_across(lines, size, xs, out);
+        let rows = Rows {
+            count: size,
+            width: lines,
+            samples: xs,
+        };
+        rows.squeeze_across(averages, residuals);
     }
 }

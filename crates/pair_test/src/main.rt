@@ -1,12 +1,15 @@
 // Replays pairs of the published Rust (tests/pairs.py made `stdin` of its
-// answers): each pair back in both forms and forward again, and eight pairs at
-// a time as one block. Prints how many there were and how many came out right.
+// answers): each pair back and forward again, the tendency taken in both ways,
+// and eight pairs at a time as one block. Prints how many there were and how many
+// came out right.
 #![tactic(auto)]
 
 ghost use Rattle.std.specs.Prelude.{◌<◌};
 
+use pair::Pair;
 use samples::sample_at;
-use std::io;
+use std::{array, io};
+use tendency::{Branching, Branchless};
 
 // A pair of `stdin`: average, residual, next average, previous output, first
 // and second, four bytes each.
@@ -17,79 +20,47 @@ const BLOCK: usize = 8 * PAIR;
 // Room for the whole input.
 const INPUT: usize = 524_288;
 
-// Whether the pair that starts at `at` comes out right both ways.
-fn pair_agrees(bytes: &[u8], at: usize) -> bool {
-    if bytes.len() < at {
-        return false;
-    }
-    let avg = sample_at(bytes, at);
-    let res = sample_at(bytes, at + 4);
-    let next = sample_at(bytes, at + 8);
-    let prev = sample_at(bytes, at + 12);
-    let first = sample_at(bytes, at + 16);
-    let second = sample_at(bytes, at + 20);
-    let back = pair::unsqueeze(avg, res, next, prev);
-    let lane = pair::unsqueeze_lane(avg, res, next, prev);
-    let forward = pair::squeeze(first, second);
-    let residual = pair::residual(forward.difference, forward.average, next, prev);
-    (back.first == first)
-        & (back.second == second)
-        & (lane.first == first)
-        & (lane.second == second)
-        & (forward.average == avg)
-        & (residual == res)
+// Whether a pair comes out right both ways.
+fn pair_agrees(case: &[u8]) -> bool {
+    let avg = sample_at(case, 0);
+    let res = sample_at(case, 4);
+    let next = sample_at(case, 8);
+    let prev = sample_at(case, 12);
+    let first = sample_at(case, 16);
+    let second = sample_at(case, 20);
+    let samples = Pair { first, second };
+    let own = pair::squeeze(first, second);
+    (pair::unsqueeze::<Branching>(avg, res, next, prev) == samples)
+        & (pair::unsqueeze::<Branchless>(avg, res, next, prev) == samples)
+        & (own.average == avg)
+        & (pair::residual::<Branching>(own.difference, avg, next, prev) == res)
+        & (pair::residual::<Branchless>(own.difference, avg, next, prev) == res)
 }
 
-// Sample `k` of each of the eight pairs from `at` on.
-fn eight(bytes: &[u8], at: usize, k: usize) -> [i32; 8] {
-    let mut b = [0i32; 8];
-    if bytes.len() < at || 5 < k {
-        return b;
-    }
-    for i in 0..8 {
-        b[i] = sample_at(bytes, at + PAIR * i + 4 * k);
-    }
-    b
-}
-
-// Whether the eight pairs from `at` on come out right as one block.
-fn block_agrees(bytes: &[u8], at: usize) -> bool {
-    let r = block::unsqueeze_block(
-        eight(bytes, at, 0),
-        eight(bytes, at, 1),
-        eight(bytes, at, 2),
-        eight(bytes, at, 3),
-    );
-    let first = eight(bytes, at, 4);
-    let second = eight(bytes, at, 5);
-    let mut same = true;
-    for i in 0..8 {
-        same = same & (r[0][i] == first[i]) & (r[1][i] == second[i]);
-    }
-    same
-}
-
-fn agrees(bytes: &[u8], at: usize, size: usize) -> bool {
-    if size == PAIR {
-        pair_agrees(bytes, at)
-    } else {
-        block_agrees(bytes, at)
-    }
-}
-
-// How many cases come out right, pairs or blocks by their size.
-fn right_of(bytes: &[u8], size: usize) -> u64
-    requires { 0 < size }
+// Number `k` of the six of each of eight pairs.
+fn eight(case: &[u8], k: usize) -> [i32; 8]
+    requires { k < 6 }
 {
-    let mut right = 0u64;
-    let mut at = 0;
-    while size <= bytes.len() - at {
-        if agrees(bytes, at, size) {
-            right += 1;
-        }
-        at += size;
-    }
-    right
+    array::from_fn(|i| sample_at(case, PAIR * i + 4 * k))
+}
+
+// Whether eight pairs come out right as one block.
+fn block_agrees(case: &[u8]) -> bool {
+    let made = block::unsqueeze_block(
+        eight(case, 0),
+        eight(case, 1),
+        eight(case, 2),
+        eight(case, 3),
+    );
+    made == [eight(case, 4), eight(case, 5)]
+}
+
+// How many cases of so many bytes come out right.
+fn right_of<F: Fn(&[u8]) -> bool>(bytes: &[u8], size: usize, agrees: F) -> u64
+    requires some { 0 < size }
+    requires callable { F.IsAlwaysCallable agrees }
+{
+    bytes.chunks_exact(size).filter(|case| agrees(case)).count() as u64
 }
 
 // An array of this size has a function of its own: a proof that meets the zeros
@@ -102,6 +73,16 @@ fn main(rt: HostRuntime) -> io::Result<()> {
     let mut buffer = input_room();
     let n = reading::read_full(&mut rt.reader(), &mut buffer)?;
     let bytes = &buffer[..n];
-    replay::say(&rt, "pairs ", (n / PAIR) as u64, right_of(bytes, PAIR))?;
-    replay::say(&rt, "blocks ", (n / BLOCK) as u64, right_of(bytes, BLOCK))
+    replay::say(
+        &rt,
+        "pairs ",
+        (n / PAIR) as u64,
+        right_of(bytes, PAIR, pair_agrees),
+    )?;
+    replay::say(
+        &rt,
+        "blocks ",
+        (n / BLOCK) as u64,
+        right_of(bytes, BLOCK, block_agrees),
+    )
 }

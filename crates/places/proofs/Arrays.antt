@@ -1,4 +1,4 @@
--- The places that flat arrays hold (`places_in`), by index, and the tables and starts that they are made of. Assumes nothing.
+-- The places that an array holds (`places_in`), by index, and the tables and starts that they are made of. Assumes nothing.
 use mathlib.Core.Path.{◌≡◌, refl, ap, ◌∙◌}
 use mathlib.Core.List.{List, [], ◌∷◌, ◌++◌}
 use Prim.Native.Nat.{ℕ, zero, suc, ◌+◌, ◌<◌}
@@ -6,6 +6,7 @@ use native.Mathlib.Omega.{arith}
 use lib.ListN.{length}
 use Rattle.list.specs.Tables.{table, map}
 use Rattle.list.proofs.Tables.{table_length, table_at}
+use Rattle.places.specs.declared.Places.{Places}
 use Rattle.places.specs.Places.{behind, starts_from, place_at, places_in, place_of}
 
 -- ---- tables: one after the other, and under a function
@@ -26,13 +27,12 @@ starts_length at [] = refl
 starts_length at (n ∷ ns) = ap suc (starts_length (behind at n) ns)
 
 -- ---- places
-module _ (count : ℕ) (widths heights homes slots : List ℕ) where
-  pub places_length : length (places_in count widths heights homes slots) ≡ count
-  unfolding places_in
-  places_length = table_length (place_at widths heights homes slots) 0 count
+pub places_length : (p : Places) → length (places_in p) ≡ p.count
+unfolding places_in
+places_length p = table_length (place_at p) 0 p.count
 
-  pub places_at : (k : ℕ) → k < count → place_of (places_in count widths heights homes slots) k ≡ place_at widths heights homes slots k
-  unfolding places_in
-  places_at k h =
-      let z : 0 + k ≡ k = omega arith in
-      table_at (place_at widths heights homes slots) 0 count k _ h ∙ ap (place_at widths heights homes slots) z
+pub places_at : (p : Places) (k : ℕ) → k < p.count → place_of (places_in p) k ≡ place_at p k
+unfolding places_in
+places_at p k h =
+    let z : 0 + k ≡ k = omega arith in
+    table_at (place_at p) 0 p.count k _ h ∙ ap (place_at p) z

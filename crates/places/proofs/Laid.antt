@@ -18,7 +18,8 @@ use Rattle.list.specs.Tables.{map}
 use Rattle.list.specs.Lists.{halved, rest, total}
 use Rattle.list.proofs.Maps.{map_length, map_default}
 use Rattle.places.specs.Places as Places
-use Rattle.places.specs.Places.{Place, area, starts_from, sum, average_place, residual_place, step_places, residuals_at, root, place_of}
+use Rattle.places.specs.declared.Place.{Place}
+use Rattle.places.specs.Places.{area, starts_from, sum, average_place, residual_place, step_places, residuals_at, root, place_of}
 use Rattle.places.specs.Laid.{Apart, Laid, Sided}
 use Rattle.places.proofs.Steps.{steps_length, step_before, step_average, step_between, step_residual, step_after, root_front, root_average, root_residual, root_behind, root_inside, same_root, Entry, before, average, between, residual, after, entry_is}
 

@@ -1,6 +1,7 @@
 pub mod Steps
 pub mod Sided
 pub mod Laid
+pub mod First
 pub mod Parts
 pub mod Moves
 pub mod Homes

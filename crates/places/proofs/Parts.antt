@@ -6,7 +6,7 @@ use Prim.Native.Nat.{ℕ, ◌+◌, ◌-◌, ◌<◌, ◌≤◌}
 use native.Mathlib.Omega.{arith}
 use lib.IntN.{ℤ, pos}
 use lib.ListN.{length, get_or, take, drop, length-append, length-take, length-drop}
-use lib.Seq.{length-take-le, take_at, drop_at, take-append-le, drop-append-le, drop-drop, get_or-take, get_or-drop, ext_get_or}
+use lib.Seq.{length-take-le, take_at, drop_at, get_or-take, get_or-drop, ext_get_or}
 use Rattle.list.proofs.Maps.{left_at, right_at}
 use Rattle.places.specs.Laid.{Apart, part, written}
 
@@ -30,17 +30,6 @@ written_from at ys xs h = drop_at (take at xs) (ys ++ drop (at + length ys) xs) 
 pub part_own : (at : ℕ) (ys xs : List ℤ) → at + length ys ≤ length xs → part at (length ys) (written at ys xs) ≡ ys
 unfolding part
 part_own at ys xs h = rw (written_from at ys xs h) (take_at ys (drop (at + length ys) xs) (length ys) refl)
-
-pub part_front : (at n m : ℕ) (ys xs : List ℤ) → n + m ≡ length ys → at + length ys ≤ length xs
-    → (part at n (written at ys xs) ≡ take n ys) × (part (at + n) m (written at ys xs) ≡ drop n ys)
-unfolding part
-part_front at n m ys xs e h =
-    let w = written_from at ys xs h in
-    let l = length-drop n ys in (
-      rw w (take-append-le n ys (drop (at + length ys) xs) (omega arith)),
-      rw (← (drop-drop n at (written at ys xs)), w, drop-append-le n ys (drop (at + length ys) xs) (omega arith))
-          (take_at (drop n ys) (drop (at + length ys) xs) m (omega arith)),
-    )
 
 -- ---- outside of what is written nothing changes
 written_before : (at : ℕ) (ys xs : List ℤ) (k : ℕ) → at + length ys ≤ length xs → k < at → get_or (written at ys xs) k (pos 0) ≡ get_or xs k (pos 0)

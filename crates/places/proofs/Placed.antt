@@ -1,20 +1,22 @@
--- A whole step on flat arrays: room made for the residuals and the range split (Moves.antt) leave the places that `step_places` gives, and keep what
+-- A whole step on the array: room made for the residuals and the range split (Moves.antt) leave the places that `step_places` gives, and keep what
 -- lies behind them. Assumes nothing.
-use mathlib.Core.Path.{◌≡◌, sym, ap, ◌∙◌}
+use mathlib.Core.Path.{◌≡◌, refl, sym, ap, ◌∙◌}
 use mathlib.Core.Bool.{true, false, and-eq-true_iff}
 use mathlib.Core.List.{List}
 use Prim.Native.Nat.{ℕ, ◌+◌, ◌-◌, ◌<◌, ◌≤◌}
 use native.Mathlib.Omega.{arith}
 use lib.Dec.{leb}
-use lib.ListN.{length, get_or, drop, length-drop}
+use lib.ListN.{length, drop, length-drop}
 use lib.Seq.{ext_get_or, get_or-drop}
 use borrow.Author.Tests.{leb-true}
 use Rattle.list.specs.declared.Step.{Step}
 use Rattle.list.specs.Tables.{table}
 use Rattle.list.specs.Lists.{max_channels}
 use Rattle.list.proofs.Tables.{table_length, table_at}
-use Rattle.places.specs.Places.{Place, average_place, residual_place, step_places, residuals_at, place_at, places_in, step_fits, count_after, places_after, place_of}
-use Rattle.places.specs.Moves.{Full, Spread, Split}
+use Rattle.places.specs.declared.Place.{Place}
+use Rattle.places.specs.declared.Places.{Places}
+use Rattle.places.specs.Places.{average_place, residual_place, step_places, residuals_at, none, place_of, place_at, places_in, step_fits, count_after, places_after}
+use Rattle.places.specs.Moves.{Spread, Split}
 use Rattle.places.proofs.Steps.{residuals_inside, steps_length, step_before, step_average, step_between, step_residual, step_after, Entry, before, average, between, residual, after, entry_is}
 
 -- ---- by index: p before the step, m once there is room, e at the end
@@ -79,51 +81,40 @@ module _ (s : Step) (count : ℕ) (p : ℕ → Place) (inside : s.begin + s.numb
     behind_kept : (k : ℕ) → count + s.number ≤ k → e k ≡ p k
     behind_kept k h = let r = residuals_inside count s inside in w.back k (omega arith) ∙ v.back k h
 
--- ---- on arrays
+-- ---- on the array
 pub fits_facts : (count : ℕ) (s : Step) → step_fits count s ≡ true → (s.begin + s.number ≤ count) × (count + s.number ≤ max_channels)
 unfolding step_fits
 fits_facts count s e =
     let b = (and-eq-true_iff (leb (s.begin + s.number) count) (leb (count + s.number) max_channels)).0 e in
     (leb-true _ _ b.0, leb-true _ _ b.1)
 
-drop_kept : (n : ℕ) (xs ys : List ℕ) → length ys ≡ length xs → ((k : ℕ) → n ≤ k → get_or ys k 0 ≡ get_or xs k 0) → drop n ys ≡ drop n xs
-drop_kept n xs ys e f =
-    let a = length-drop n xs in
-    let b = length-drop n ys in
-    ext_get_or 0 (drop n ys) (drop n xs) (omega arith) (λ i h. get_or-drop n ys i 0 ∙ f (n + i) (omega arith) ∙ sym (get_or-drop n xs i 0))
+drop_kept : (n : ℕ) (ps qs : List Place) → length qs ≡ length ps → ((k : ℕ) → n ≤ k → place_of qs k ≡ place_of ps k) → drop n qs ≡ drop n ps
+drop_kept n ps qs e f =
+    let a = length-drop n ps in
+    let b = length-drop n qs in
+    ext_get_or none (drop n qs) (drop n ps) (omega arith) (λ i h. get_or-drop n qs i none ∙ f (n + i) (omega arith) ∙ sym (get_or-drop n ps i none))
+
+-- what a step leaves of the places p in q
+pub record After (s : Step) (p q : Places) : Type 0 where
+  pub counted : q.count ≡ count_after p.count s
+  pub placed : places_in q ≡ places_after s p
+  pub kept : drop q.count q.places ≡ drop q.count p.places
 
 -- a step that does not fit
-pub refused : (count : ℕ) (s : Step) (ws hs os ss : List ℕ) → step_fits count s ≡ false
-    → (count ≡ count_after count s) × (places_in count ws hs os ss ≡ places_after count s ws hs os ss)
+pub refused : (s : Step) (p : Places) → step_fits p.count s ≡ false → After s p p
 unfolding count_after places_after
-refused count s ws hs os ss e = (rw e, rw e)
+refused s p e = record { counted = rw e; placed = rw e; kept = refl }
 
-module _ (count : ℕ) (s : Step) (ws hs os ss ws₁ hs₁ os₁ ss₁ ws₂ hs₂ os₂ ss₂ : List ℕ) (fits : step_fits count s ≡ true) (f : Full ws hs os ss)
-    (f₂ : Full ws₂ hs₂ os₂ ss₂)
-    (v : Spread count (residuals_at count s) s.number (place_at ws hs os ss) (place_at ws₁ hs₁ os₁ ss₁))
-    (w : Split s.horizontal s.begin (residuals_at count s) s.number (place_at ws₁ hs₁ os₁ ss₁) (place_at ws₂ hs₂ os₂ ss₂)) where
-  placed_list : places_in (count + s.number) ws₂ hs₂ os₂ ss₂ ≡ places_after count s ws hs os ss
-  unfolding places_in places_after
-  placed_list = rw fits (placed_all s count (place_at ws hs os ss) (fits_facts count s fits).0 (place_at ws₁ hs₁ os₁ ss₁) (place_at ws₂ hs₂ os₂ ss₂) v w)
-
-  placed_count : count + s.number ≡ count_after count s
-  unfolding count_after
-  placed_count = rw fits
-
-  kept : (k : ℕ) → count + s.number ≤ k → place_at ws₂ hs₂ os₂ ss₂ k ≡ place_at ws hs os ss k
-  kept = behind_kept s count (place_at ws hs os ss) (fits_facts count s fits).0 (place_at ws₁ hs₁ os₁ ss₁) (place_at ws₂ hs₂ os₂ ss₂) v w
-
-  pub placed : (count + s.number ≡ count_after count s)
-      × (places_in (count + s.number) ws₂ hs₂ os₂ ss₂ ≡ places_after count s ws hs os ss)
-      × (drop (count + s.number) ws₂ ≡ drop (count + s.number) ws)
-      × (drop (count + s.number) hs₂ ≡ drop (count + s.number) hs)
-      × (drop (count + s.number) os₂ ≡ drop (count + s.number) os)
-      × (drop (count + s.number) ss₂ ≡ drop (count + s.number) ss)
-  placed = (
-    placed_count,
-    placed_list,
-    drop_kept _ ws ws₂ (f₂.widths ∙ sym f.widths) (λ k h. ap (λ (q : Place). q.width) (kept k h)),
-    drop_kept _ hs hs₂ (f₂.heights ∙ sym f.heights) (λ k h. ap (λ (q : Place). q.height) (kept k h)),
-    drop_kept _ os os₂ (f₂.homes ∙ sym f.homes) (λ k h. ap (λ (q : Place). q.home) (kept k h)),
-    drop_kept _ ss ss₂ (f₂.slots ∙ sym f.slots) (λ k h. ap (λ (q : Place). q.slot) (kept k h)),
-  )
+-- one that fits, by way of the array ms with room made for the residuals
+pub stepped : (s : Step) (p q : Places) (ms : List Place) → step_fits p.count s ≡ true → length q.places ≡ length p.places → q.count ≡ p.count + s.number
+    → Spread p.count (residuals_at p.count s) s.number (place_of p.places) (place_of ms)
+    → Split s.horizontal s.begin (residuals_at p.count s) s.number (place_of ms) (place_of q.places)
+    → After s p q
+unfolding count_after places_in places_after
+stepped s p q ms fits long more v w =
+    let i = (fits_facts p.count s fits).0 in
+    record {
+      counted = rw fits more;
+      placed = rw (more, fits) (placed_all s p.count (place_at p) i (place_of ms) (place_at q) v w);
+      kept = drop_kept q.count p.places q.places long (λ k h. behind_kept s p.count (place_at p) i (place_of ms) (place_at q) v w k (omega arith));
+    }

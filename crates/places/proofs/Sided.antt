@@ -16,7 +16,8 @@ use Rattle.list.specs.Accepted.{Accepted}
 use Rattle.list.proofs.Acceptance.{accepted_sides}
 use Rattle.list.proofs.Shifts.{lifted}
 use Rattle.list.proofs.Entries as Entries
-use Rattle.places.specs.Places.{Place, bare, area, average_place, residual_place, step_places, residuals_at, place_of}
+use Rattle.places.specs.declared.Place.{Place}
+use Rattle.places.specs.Places.{bare, area, average_place, residual_place, step_places, residuals_at, place_of}
 use Rattle.places.specs.Laid.{Sided}
 use Rattle.places.proofs.Steps.{steps_length, residuals_from_lem, step_before, step_average, step_between, step_residual, step_after, Entry, before, average, between, residual, after, entry_is}
 

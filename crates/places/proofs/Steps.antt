@@ -3,7 +3,6 @@
 use mathlib.Core.Path.{◌≡◌, refl, ap, ◌∙◌}
 use mathlib.Core.Bool.{Bool, true, false, cond}
 use mathlib.Core.List.{List}
-use mathlib.Core.Logic.{◌⊎◌, inl, inr}
 use Prim.Native.Nat.{ℕ, ◌+◌, ◌-◌, ◌<◌, ◌≤◌}
 use native.Mathlib.Omega.{arith}
 use lib.Dec.{ltb}
@@ -11,7 +10,8 @@ use lib.ListN.{length}
 use borrow.Author.Tests.{ltb-true, ltb-false, lt-ltb, le-ltb}
 use Rattle.list.specs.declared.Step.{Step}
 use Rattle.list.proofs.Entries.{moved_length, moved_before, moved_average, moved_between, moved_residual, moved_after}
-use Rattle.places.specs.Places.{Place, average_place, residual_place, step_places, residuals_at, root, place_of}
+use Rattle.places.specs.declared.Place.{Place}
+use Rattle.places.specs.Places.{average_place, residual_place, step_places, residuals_at, root, place_of}
 
 -- the residuals start behind the range, and inside the list or at its end
 pub residuals_inside : (count : ℕ) (s : Step) → s.begin + s.number ≤ count → (s.begin + s.number ≤ residuals_at count s) × (residuals_at count s ≤ count)
@@ -104,15 +104,6 @@ module _ (s : Step) (ps : List Place) (inside : s.begin + s.number ≤ length ps
       go (front l e) = let f = residuals_from_lem in omega arith
       go (among i l q e) = omega arith
       go (back l e) = omega arith
-
-  pub root_range : (i k : ℕ) → i < s.number → k < length ps + s.number → root (length ps) s k ≡ s.begin + i
-      → (k ≡ s.begin + i) ⊎ (k ≡ residuals_at (length ps) s + i)
-  root_range i k h b r = go (root_is k)
-    where
-      go : Root k → (k ≡ s.begin + i) ⊎ (k ≡ residuals_at (length ps) s + i)
-      go (front l e) = inl (omega arith)
-      go (among j l q e) = inr (omega arith)
-      go (back l e) = let f = residuals_from_lem in absurd (omega arith)
 
   -- two indices of one root: an average and its residual
   pub same_root : (i j : ℕ) → i < j → root (length ps) s i ≡ root (length ps) s j

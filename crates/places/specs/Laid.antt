@@ -3,7 +3,8 @@
 use Rattle.std.specs.Prelude.{◌≡◌, List, ◌++◌, ◌⊎◌, ℕ, ◌+◌, ◌<◌, ◌≤◌, ℤ, length, take, drop}
 use Rattle.channel.specs.declared.Channel.{Channel}
 use Rattle.list.specs.Questions.{channel_of}
-use Rattle.places.specs.Places.{Place, area, place_of}
+use Rattle.places.specs.declared.Place.{Place}
+use Rattle.places.specs.Places.{area, place_of}
 
 -- one part lies before the other
 abbrev pub Apart : ℕ → ℕ → ℕ → ℕ → Type 0

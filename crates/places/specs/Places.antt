@@ -1,18 +1,16 @@
 -- Where the samples of a list's channels lie while the steps of a plan are taken: a channel has its home, a part of a slice as long as the picture,
--- and a step divides the home between average and residual. The places are kept in flat arrays, filled up to a count. Definitions only.
-use Rattle.std.specs.Prelude.{Bool, cond, ◌&&◌, List, [], ◌∷◌, ℕ, ◌+◌, ◌-◌, ◌*◌, min, eqb, leb, ltb, get_or}
+-- and a step divides the home between average and residual. The places are kept in an array, filled up to a count. Definitions only.
+use Rattle.std.specs.Prelude.{Bool, true, false, cond, ◌&&◌, List, [], ◌∷◌, ℕ, ◌+◌, ◌-◌, ◌*◌, min, leb, ltb, get_or}
 use Rattle.numbers.specs.Numbers.{max_samples}
 use Rattle.channel.specs.declared.Channel.{Channel}
+use Rattle.channel.specs.Channel.{samples}
 use Rattle.list.specs.declared.Step.{Step}
 use Rattle.list.specs.Tables.{table}
 use Rattle.list.specs.Lists.{max_channels, halved, rest, moved}
-
--- a channel's sides, the start of its home, and its slot: which slice it stands in
-pub record Place : Type 0 where
-  pub width : ℕ
-  pub height : ℕ
-  pub home : ℕ
-  pub slot : ℕ
+use Rattle.places.specs.declared.Slot.{Slot}
+use Rattle.places.specs.declared.Slot.TheVariants.{Unmade, Odd, Even}
+use Rattle.places.specs.declared.Place.{Place}
+use Rattle.places.specs.declared.Places.{Places}
 
 -- its sides as a channel, which are all that a squeeze knows of one
 abbrev pub bare : Place → Channel
@@ -22,18 +20,28 @@ abbrev pub area : Place → ℕ
 area p = p.width * p.height
 
 -- ---- slots: what no step has made, what an odd number of steps have, what an even number have
-abbrev pub unmade : ℕ
-unmade = 0
+abbrev pub unmade : Slot
+unmade = Unmade
 
-abbrev pub odd : ℕ
-odd = 1
+abbrev pub odd : Slot
+odd = Odd
 
-abbrev pub even : ℕ
-even = 2
+abbrev pub even : Slot
+even = Even
+
+abbrev pub is_unmade : Slot → Bool
+is_unmade Unmade = true
+is_unmade Odd = false
+is_unmade Even = false
+
+abbrev pub is_odd : Slot → Bool
+is_odd Unmade = false
+is_odd Odd = true
+is_odd Even = false
 
 -- the slot of what a step makes of a channel
-unfoldable pub turned : ℕ → ℕ
-turned slot = cond (eqb slot odd) even odd
+unfoldable pub turned : Slot → Slot
+turned slot = cond (is_odd slot) even odd
 
 -- ---- homes
 -- n behind a home, inside the longest slice
@@ -82,16 +90,28 @@ root count s k =
     cond (ltb k (residuals_at count s)) k
     (cond (ltb k (residuals_at count s + s.number)) (s.begin + (k - residuals_at count s)) (k - s.number))
 
--- ---- flat arrays
-abbrev pub place_at : List ℕ → List ℕ → List ℕ → List ℕ → ℕ → Place
-place_at widths heights homes slots k =
-    record { width = get_or widths k 0; height = get_or heights k 0; home = get_or homes k 0; slot = get_or slots k 0 }
+-- ---- the array
+-- no channel's place
+abbrev pub none : Place
+none = record { width = 0; height = 0; home = 0; slot = unmade }
 
-unfoldable pub places_in : ℕ → List ℕ → List ℕ → List ℕ → List ℕ → List Place
-places_in count widths heights homes slots = table (place_at widths heights homes slots) 0 count
+-- the entry k of a list of places; past it none
+abbrev pub place_of : List Place → ℕ → Place
+place_of ps k = get_or ps k none
 
-unfoldable pub areas_in : ℕ → List ℕ → List ℕ → List ℕ
-areas_in count widths heights = table (λ k. get_or widths k 0 * get_or heights k 0) 0 (min count max_channels)
+abbrev pub place_at : Places → ℕ → Place
+place_at p k = place_of p.places k
+
+unfoldable pub places_in : Places → List Place
+places_in p = table (place_at p) 0 p.count
+
+unfoldable pub areas_in : Places → List ℕ
+areas_in p = table (λ k. area (place_at p k)) 0 (min p.count max_channels)
+
+-- the places of channels one after the other, before any step
+abbrev pub places_from : ℕ → List Channel → List Place
+places_from at [] = []
+places_from at (c ∷ cs) = record { width = c.width; height = c.height; home = at; slot = unmade } ∷ places_from (behind at (samples c)) cs
 
 -- a step fits where its range lies inside and there is room for its residuals; else nothing changes
 unfoldable pub step_fits : ℕ → Step → Bool
@@ -100,10 +120,5 @@ step_fits count s = leb (s.begin + s.number) count && leb (count + s.number) max
 unfoldable pub count_after : ℕ → Step → ℕ
 count_after count s = cond (step_fits count s) (count + s.number) count
 
-unfoldable pub places_after : ℕ → Step → List ℕ → List ℕ → List ℕ → List ℕ → List Place
-places_after count s widths heights homes slots =
-    cond (step_fits count s) (step_places s (places_in count widths heights homes slots)) (places_in count widths heights homes slots)
-
--- the entry k of a list of places; past it zeros
-abbrev pub place_of : List Place → ℕ → Place
-place_of ps k = get_or ps k (record { width = 0; height = 0; home = 0; slot = 0 })
+unfoldable pub places_after : Step → Places → List Place
+places_after s p = cond (step_fits p.count s) (step_places s (places_in p)) (places_in p)

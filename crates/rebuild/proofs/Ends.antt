@@ -1,12 +1,12 @@
 -- The two ends of a run of steps back: at its begin every channel lies in the pyramid in list order, and at its end the channels of the first list are
 -- settled to the rebuilt picture. Assumes nothing.
 use mathlib.Core.Path.{◌≡◌, refl, sym, ap, ◌∙◌}
-use mathlib.Core.Bool.{Bool, false, false≢true}
-use mathlib.Core.List.{List, [], ◌∷◌, ◌++◌}
+use mathlib.Core.Bool.{false≢true}
+use mathlib.Core.List.{List, [], ◌∷◌}
 use Prim.Native.Nat.{ℕ, zero, suc, ◌<◌, ◌≤◌, min}
 use native.Mathlib.Omega.{arith}
 use lib.IntN.{ℤ}
-use lib.ListN.{length, get_or, replicate, get_or-append}
+use lib.ListN.{length, get_or}
 use lib.Seq.{ext_get_or, drop-drop}
 use Rattle.channel.specs.declared.Channel.{Channel}
 use Rattle.channel.specs.Channel.{samples}
@@ -17,7 +17,9 @@ use Rattle.list.specs.Questions.{channel_of}
 use Rattle.list.proofs.Tables.{table_none}
 use Rattle.list.proofs.Maps.{map_length, map_at}
 use Rattle.list.proofs.Channels.{channels_length, channels_at}
-use Rattle.places.specs.Places.{Place, area, sum, starts_from, places_in, areas_in, place_of}
+use Rattle.places.specs.declared.Place.{Place}
+use Rattle.places.specs.declared.Places.{Places}
+use Rattle.places.specs.Places.{area, sum, starts_from, none, places_in, areas_in, places_from, place_of}
 use Rattle.places.specs.Laid.{Sided, part}
 use Rattle.places.proofs.Laid.{starts_at, sum_inside, first_home}
 use Rattle.places.proofs.Sided.{sided_area}
@@ -28,10 +30,13 @@ use Rattle.plan.proofs.Runs.{plan_accepted}
 use Rattle.runs.specs.Parts.{parts, joined}
 use Rattle.runs.specs.Runs.{rebuilt}
 use Rattle.runs.proofs.Shapes.{joined_parts}
-use Rattle.rebuild.specs.Run.{places_from, list_at, places_at, samples_at, RunFits, Back, place_in, given_at, SettleFits, Settled}
-use Rattle.places.proofs.Arrays.{places_length, starts_length}
+use Rattle.rebuild.specs.declared.Source.TheVariants.{Pyramid}
+use Rattle.rebuild.specs.declared.Sources.{Sources}
+use Rattle.rebuild.specs.Run.{made_of, source_at, Lying, list_at, places_at, samples_at, RunFits, Back, place_in, given_at, SettleFits, Settled}
+use Rattle.places.proofs.Arrays.{places_length}
+use Rattle.places.proofs.First.{from_areas, from_homes, from_sided, sum_samples}
 use Rattle.rebuild.proofs.Arrays.{areas_are, from_slots}
-use Rattle.rebuild.proofs.Firsts.{from_areas, from_homes, from_sided, sum_samples, all_steps_lem, list_total, total_few, accepted_few, places_sided}
+use Rattle.rebuild.proofs.Firsts.{all_steps_lem, list_total, total_few, accepted_few, places_sided}
 use Rattle.rebuild.proofs.StepsBack.{parts_count}
 
 -- ---- the parts of a slice, by index
@@ -49,18 +54,13 @@ areas_same cs ps w =
     let n = w.long in
     ext_get_or 0 (map area ps) (map samples cs) (omega arith)
     (λ k h.
-    map_at area ps k (record { width = 0; height = 0; home = 0; slot = 0 }) 0 (omega arith) ∙ sided_area cs ps w k (omega arith)
+    map_at area ps k none 0 (omega arith) ∙ sided_area cs ps w k (omega arith)
     ∙ sym (map_at samples cs k (record { width = 0; height = 0; hshift = 0; vshift = 0 }) 0 (omega arith)))
-
-get_or_false : (n k : ℕ) → get_or (replicate n false) k false ≡ false
-get_or_false zero k = refl
-get_or_false (suc n) zero = refl
-get_or_false (suc n) (suc k) = get_or_false n k
 
 module _ (l : ChannelList) (s : Steps) (pyramid : List ℤ) (f : RunFits l s pyramid) where
   -- ---- before the first step back
-  module _ (ws hs os ss starts rest : List ℕ) (count : ℕ) (ep : places_in count ws hs os ss ≡ places_at l s s.count) (es : starts ≡ starts_from 0 (areas_in count ws hs) ++ rest)
-      (picture work : List ℤ) (lp : length picture ≡ length pyramid) (lw : length work ≡ length pyramid) (ls : length starts ≡ max_channels) where
+  module _ (p : Places) (sources : Sources) (ep : places_in p ≡ places_at l s s.count) (ly : Lying p sources)
+      (picture work : List ℤ) (lp : length picture ≡ length pyramid) (lw : length work ≡ length pyramid) where
     abbrev cs : List Channel
     cs = list_at l s s.count
 
@@ -70,34 +70,36 @@ module _ (l : ChannelList) (s : Steps) (pyramid : List ℤ) (f : RunFits l s pyr
     sided : Sided cs ps
     sided = places_sided l s pyramid f s.count (omega arith)
 
-    count_is : count ≡ length ps
-    count_is = sym (places_length count ws hs os ss) ∙ ap length ep
+    count_is : p.count ≡ length ps
+    count_is = sym (places_length p) ∙ ap length ep
 
     whole : steps s ≡ table (step_at s) 0 s.count
     unfolding S.steps
     whole = let few = f.few in let e : min s.count max_steps ≡ s.count = omega arith in rw e
 
-    count_few : count ≤ max_channels
+    count_few : p.count ≤ max_channels
     count_few =
         let a = (plan_accepted (table (step_at s) 0 s.count) (channels l) f.accepted (rw whole at f.taken)).few in
         let n = sided.long in
         let e = count_is in
         omega arith
 
-    areas : areas_in count ws hs ≡ map samples cs
-    areas = areas_are count ws hs os ss count_few ∙ ap (map area) ep ∙ areas_same cs ps sided
+    areas : areas_in p ≡ map samples cs
+    areas = areas_are p count_few ∙ ap (map area) ep ∙ areas_same cs ps sided
 
     sum_is : sum (map samples cs) ≡ length pyramid
     sum_is = sum_samples cs ∙ list_total l s pyramid f s.count
 
-    start_at : (k : ℕ) → k < length ps → get_or starts k 0 ≡ place_in cs k
-    start_at k h =
+    lies_at : (k : ℕ) → k < length ps → source_at sources k ≡ Pyramid (place_in cs k)
+    lies_at k h =
         let n = sided.long in
-        let a = starts_length 0 (map samples cs) in
+        let e = count_is in
+        let few = count_few in
         let b = map_length samples cs in
         let t = total_few l s pyramid f in
         let q = sum_is in
-        rw (es, areas) (get_or-append (starts_from 0 (map samples cs)) rest 0 k (omega arith) ∙ starts_at 0 (map samples cs) (omega arith) k (omega arith) ∙ omega arith)
+        let z : get_or (starts_from 0 (map samples cs)) k 0 ≡ place_in cs k = starts_at 0 (map samples cs) (omega arith) k (omega arith) ∙ omega arith in
+        rw areas at (ly k (omega arith)) ∙ ap Pyramid z
 
     size_is : (k : ℕ) → k < length ps → area (place_of ps k) ≡ samples (channel_of cs k)
     size_is k h = sided_area cs ps sided k h
@@ -105,29 +107,26 @@ module _ (l : ChannelList) (s : Steps) (pyramid : List ℤ) (f : RunFits l s pyr
     pyramid_is : samples_at l s s.count pyramid ≡ pyramid
     pyramid_is = rw (table_none (step_at s) s.count s.count (omega arith))
 
-    pub back_none : (made : List Bool) → made ≡ replicate 256 false → Back l s s.count starts made pyramid picture work
-    back_none made em =
+    pub back_none : Back l s s.count sources pyramid picture work
+    back_none =
         record {
           inside = omega arith;
           starts_in = λ k h.
               let b = sum_inside (map samples cs) k in
               let n = sided.long in
               let c = map_at samples cs k (record { width = 0; height = 0; hshift = 0; vshift = 0 }) 0 (omega arith) in
-              rw (start_at k h, size_is k h) (let q = sum_is in omega (arith, b, c, q));
-          at_home_lem = λ k h e. absurd (false≢true (sym (rw em (get_or_false 256 k)) ∙ e));
+              rw (lies_at k h, size_is k h) (let q = sum_is in omega (arith, b, c, q));
+          at_home_lem = λ k h e. absurd (false≢true (sym (ap made_of (lies_at k h)) ∙ e));
           here = λ k h.
               let n = sided.long in
-              let e : get_or made k false ≡ false = rw em (get_or_false 256 k) in
-              rw (e, start_at k h, size_is k h, pyramid_is) (sym (parts_at cs pyramid k (omega arith)));
+              rw (lies_at k h, size_is k h, pyramid_is) (sym (parts_at cs pyramid k (omega arith)));
           samples_long = ap length pyramid_is;
-          starts_long = ls;
-          made_long = rw em refl;
           picture_long = lp;
           work_long = lw;
         }
 
   -- ---- after the last
-  module _ (starts : List ℕ) (made : List Bool) (picture work : List ℤ) (w : Back l s 0 starts made pyramid picture work) where
+  module _ (sources : Sources) (picture work : List ℤ) (w : Back l s 0 sources pyramid picture work) where
     abbrev ds : List Channel
     ds = channels l
 
@@ -150,24 +149,22 @@ module _ (l : ChannelList) (s : Steps) (pyramid : List ℤ) (f : RunFits l s pyr
         let t = accepted_few ds f.accepted in
         first_home (places_from 0 ds) (map samples ds) (sym (from_areas 0 ds)) (from_homes 0 ds) (omega arith) k (omega arith)
 
-    pub settle_fits : SettleFits l starts made pyramid picture
+    pub settle_fits : SettleFits l sources pyramid picture
     settle_fits =
         let n = first_long in
         record {
           counted = f.counted;
           starts_in = λ k h. rw (first_area k h) at (w.starts_in k (omega arith));
           at_home_lem = λ k h e. w.at_home_lem k (omega arith) e ∙ first_place k h;
-          starts_long = w.starts_long;
-          made_long = w.made_long;
           few = accepted_few ds f.accepted;
           pyramid_long = f.pyramid_long;
           picture_long = w.picture_long ∙ f.pyramid_long;
         }
 
-    given : (k : ℕ) → k < l.count → given_at l starts made pyramid picture k ≡ get_or (parts ds (samples_at l s 0 pyramid)) k []
+    given : (k : ℕ) → k < l.count → given_at l sources pyramid picture k ≡ get_or (parts ds (samples_at l s 0 pyramid)) k []
     given k h = let n = first_long in rw (first_area k h, from_slots 0 ds k) at (w.here k (omega arith))
 
-    pub settled_is : (picture2 : List ℤ) → length picture2 ≡ length picture → Settled l starts made pyramid picture picture2 → picture2 ≡ rebuilt (steps s) ds pyramid
+    pub settled_is : (picture2 : List ℤ) → length picture2 ≡ length picture → Settled l sources pyramid picture picture2 → picture2 ≡ rebuilt (steps s) ds pyramid
     settled_is picture2 e t =
         let n = ds_long in
         let a = parts_count ds picture2 in

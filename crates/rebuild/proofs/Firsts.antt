@@ -2,17 +2,16 @@
 -- homes lie apart inside the slices. Assumes nothing.
 use mathlib.Core.Path.{◌≡◌, refl, sym, ap, subst, ◌∙◌}
 use mathlib.Core.List.{List, [], ◌∷◌, ◌++◌}
-use Prim.Native.Nat.{ℕ, zero, suc, ◌+◌, ◌-◌, ◌*◌, ◌<◌, ◌≤◌, min}
+use Prim.Native.Nat.{ℕ, zero, suc, ◌+◌, ◌-◌, ◌<◌, ◌≤◌, min}
 use native.Mathlib.Omega.{arith}
 use borrow.Author.Tests.{leb-true, le-leb}
 use lib.ListN.{length}
 use lib.IntN.{ℤ}
 use Rattle.numbers.specs.Numbers.{max_samples}
 use Rattle.channel.specs.declared.Channel.{Channel}
-use Rattle.channel.specs.Channel.{samples}
 use Rattle.list.specs.declared.ChannelList.{ChannelList}
 use Rattle.list.specs.declared.Step.{Step}
-use Rattle.list.specs.Tables.{table, map}
+use Rattle.list.specs.Tables.{table}
 use Rattle.list.specs.Lists.{max_channels, max_steps, channels, stepped, total}
 use Rattle.list.specs.Questions as Questions
 use Rattle.list.specs.Questions.{channel_of, judge_step}
@@ -24,54 +23,18 @@ use Rattle.plan.specs.Steps as S
 use Rattle.plan.specs.Steps.{step_at, steps}
 use Rattle.plan.specs.Plans.{judge_steps, stepped_all}
 use Rattle.plan.proofs.Runs.{none_refused, stepped_append, judge_append, steps_total, plan_accepted}
-use Rattle.places.specs.Places.{Place, area, behind, sum, starts_from, step_places, step_fits, place_of}
+use Rattle.places.specs.declared.Place.{Place}
+use Rattle.places.specs.Places.{places_from, step_places, step_fits}
 use Rattle.places.specs.Laid.{Laid, Sided}
 use Rattle.places.proofs.Arrays.{table_join}
-use Rattle.places.proofs.Laid.{laid_first, laid_step}
+use Rattle.places.proofs.Laid.{laid_step}
+use Rattle.places.proofs.First.{from_sided, from_laid}
 use Rattle.places.proofs.Sided.{sided_step}
-use Rattle.rebuild.specs.Run.{places_from, places_all, first_steps, list_at, places_at, StepsFit, RunFits}
-
--- ---- before any step
-pub from_areas : (at : ℕ) (cs : List Channel) → map area (places_from at cs) ≡ map samples cs
-unfolding samples
-from_areas at [] = refl
-from_areas at (c ∷ cs) = ap (λ (ns : List ℕ). c.width * c.height ∷ ns) (from_areas (behind at (samples c)) cs)
-
-pub from_homes : (at : ℕ) (cs : List Channel) → map (λ (p : Place). p.home) (places_from at cs) ≡ starts_from at (map samples cs)
-from_homes at [] = refl
-from_homes at (c ∷ cs) = ap (λ (ns : List ℕ). at ∷ ns) (from_homes (behind at (samples c)) cs)
-
-from_length : (at : ℕ) (cs : List Channel) → length (places_from at cs) ≡ length cs
-from_length at [] = refl
-from_length at (c ∷ cs) = ap suc (from_length (behind at (samples c)) cs)
-
-pub sum_samples : (cs : List Channel) → sum (map samples cs) ≡ total cs
-sum_samples [] = refl
-sum_samples (c ∷ cs) = ap (λ (n : ℕ). samples c + n) (sum_samples cs)
-
-sided_more : (c : Channel) (cs : List Channel) (p : Place) (ps : List Place) → p.width ≡ c.width → p.height ≡ c.height → Sided cs ps → Sided (c ∷ cs) (p ∷ ps)
-sided_more c cs p ps ew eh r = record { long = ap suc r.long; wide = λ k h. wides k h; high = λ k h. highs k h }
-  where
-    wides : (k : ℕ) → k < suc (length ps) → (place_of (p ∷ ps) k).width ≡ (channel_of (c ∷ cs) k).width
-    wides zero h = ew
-    wides (suc k) h = r.wide k (omega arith)
-
-    highs : (k : ℕ) → k < suc (length ps) → (place_of (p ∷ ps) k).height ≡ (channel_of (c ∷ cs) k).height
-    highs zero h = eh
-    highs (suc k) h = r.high k (omega arith)
-
-pub from_sided : (at : ℕ) (cs : List Channel) → Sided cs (places_from at cs)
-from_sided at [] = record { long = refl; wide = λ k h. absurd (omega arith); high = λ k h. absurd (omega arith) }
-from_sided at (c ∷ cs) = sided_more c cs _ _ refl refl (from_sided (behind at (samples c)) cs)
+use Rattle.rebuild.specs.Run.{places_all, first_steps, list_at, places_at, StepsFit, RunFits}
 
 pub accepted_few : (cs : List Channel) → Accepted cs → total cs ≤ max_samples
 unfolding Questions.total_allowed
 accepted_few cs ok = leb-true (total cs) max_samples ok.samples
-
-from_laid : (cs : List Channel) → total cs ≤ max_samples → Laid (total cs) (places_from 0 cs)
-from_laid cs few =
-    rw (sum_samples cs)
-    at (laid_first (places_from 0 cs) (map samples cs) (sym (from_areas 0 cs)) (from_homes 0 cs) (let e = sum_samples cs in omega arith))
 
 -- ---- one step more
 to_more : (s : Steps) (m : ℕ) → first_steps s (m + 1) ≡ first_steps s m ++ (step_at s m ∷ [])

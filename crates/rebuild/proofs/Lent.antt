@@ -13,7 +13,7 @@ use Rattle.places.specs.Laid.{part, written}
 use Rattle.places.proofs.Parts.{part_length}
 use Rattle.runs.specs.Runs.{channel_back}
 use Rattle.rebuild.specs.declared.Source.{Source}
-use Rattle.rebuild.specs.Run.{slice_of, lying_in}
+use Rattle.rebuild.specs.Run.{slice_of, start_of, made_of, lying_in}
 
 pub lent : (at n : ℕ) (xs : List ℤ) → take (at + n - at) (drop at xs) ≡ part at n xs
 unfolding part
@@ -26,13 +26,13 @@ back at n ys zs xs e l =
     rw (z, e, l, drop-drop n at xs)
 
 -- an average or a residual has its samples in either slice
-pub source_length : (s : Source) (n : ℕ) (pyramid beside : List ℤ) → s.start + n ≤ length pyramid → length beside ≡ length pyramid
+pub source_length : (s : Source) (n : ℕ) (pyramid beside : List ℤ) → start_of s + n ≤ length pyramid → length beside ≡ length pyramid
     → length (lying_in s n pyramid beside) ≡ n
-source_length s n pyramid beside h e = by s.made
+source_length s n pyramid beside h e = by (made_of s)
   where
-    by : (b : Bool) → length (part s.start n (cond b beside pyramid)) ≡ n
-    by true = part_length s.start n beside (omega (arith, h, e))
-    by false = part_length s.start n pyramid h
+    by : (b : Bool) → length (part (start_of s) n (cond b beside pyramid)) ≡ n
+    by true = part_length (start_of s) n beside (omega (arith, h, e))
+    by false = part_length (start_of s) n pyramid h
 
 pub made_from : (h : Bool) (c : Channel) (zs xs ys xs2 ys2 : List ℤ) → zs ≡ channel_back h c xs ys → xs ≡ xs2 → ys ≡ ys2 → zs ≡ channel_back h c xs2 ys2
 made_from h c zs xs ys xs2 ys2 e ex ey = e ∙ rw (ex, ey)

@@ -1,7 +1,6 @@
 pub mod OneTile
 pub mod Lent
 pub mod Arrays
-pub mod Entries
 pub mod Ranges
 pub mod Backs
 pub mod Firsts
@@ -9,3 +8,4 @@ pub mod StepsBack
 pub mod Settling
 pub mod Ends
 pub mod Outcome
+pub mod Lays

@@ -7,19 +7,20 @@ use mathlib.Core.Logic.{◌⊎◌, inl, inr}
 use Prim.Native.Nat.{ℕ, suc, ◌+◌, ◌-◌, ◌<◌, ◌≤◌}
 use native.Mathlib.Omega.{arith}
 use borrow.Author.Tests.{eq-eqb, lt-ltb, le-ltb}
-use lib.Dec.{eqb, ltb}
+use lib.Dec.{ltb}
 use lib.IntN.{ℤ}
 use lib.ListN.{length, get_or}
 use Rattle.channel.specs.declared.Channel.{Channel}
 use Rattle.list.specs.declared.ChannelList.{ChannelList}
 use Rattle.list.specs.declared.Step.{Step}
 use Rattle.list.specs.Tables.{table}
-use Rattle.list.specs.Lists.{max_channels, stepped}
+use Rattle.list.specs.Lists.{stepped}
 use Rattle.list.specs.Questions.{channel_of, judge_step}
 use Rattle.list.proofs.Tables.{table_rest}
 use Rattle.list.proofs.Entries.{stepped_length}
 use Rattle.line.proofs.Lines.{lt_or_ge}
-use Rattle.places.specs.Places.{Place, area, odd, step_places, residuals_at, root, place_of, bare}
+use Rattle.places.specs.declared.Place.{Place}
+use Rattle.places.specs.Places.{area, is_odd, step_places, residuals_at, root, place_of, bare}
 use Rattle.places.specs.Laid.{part}
 use Rattle.places.proofs.Steps.{steps_length, step_before, step_between, step_after, root_average, residuals_from_lem}
 use Rattle.places.proofs.Sided.{sided_area, sided_fit}
@@ -28,7 +29,9 @@ use Rattle.plan.specs.Steps.{step_at}
 use Rattle.runs.specs.Parts.{parts}
 use Rattle.runs.specs.Runs.{channel_back, back_parts, step_back, rebuilt}
 use Rattle.runs.proofs.Shapes.{Shaped, parts_joined, joined_length}
-use Rattle.rebuild.specs.Run.{slice_of, lying_in, source_at, held, RangeFits, TakenBack, list_at, places_at, samples_at, RunFits, Back}
+use Rattle.rebuild.specs.declared.Source.TheVariants.{Home}
+use Rattle.rebuild.specs.declared.Sources.{Sources}
+use Rattle.rebuild.specs.Run.{slice_of, start_of, made_of, lying_in, source_at, start_at, made_at, held, RangeFits, TakenBack, list_at, places_at, samples_at, RunFits, Back}
 use Rattle.rebuild.proofs.Lent.{source_length, slice_length}
 use Rattle.rebuild.proofs.Backs.{shaped_by, back_count, back_before, back_range, back_behind}
 use Rattle.rebuild.proofs.Firsts.{list_more, places_more, step_judged, step_ok, list_ok, list_total, total_few, places_sided, places_laid, step_inside}
@@ -56,7 +59,7 @@ root_behind n s k g b = by s.inplace
     by false = rw (lt-ltb (k + 0) n (omega arith)) (omega arith)
 
 module _ (l : ChannelList) (s : Steps) (pyramid : List ℤ) (f : RunFits l s pyramid) (m : ℕ) (h : m < s.count)
-    (starts : List ℕ) (made : List Bool) (picture work : List ℤ) (w : Back l s (m + 1) starts made pyramid picture work) where
+    (sources : Sources) (picture work : List ℤ) (w : Back l s (m + 1) sources pyramid picture work) where
   abbrev st : Step
   st = step_at s m
 
@@ -82,16 +85,16 @@ module _ (l : ChannelList) (s : Steps) (pyramid : List ℤ) (f : RunFits l s pyr
   after_long : length (places_at l s (m + 1)) ≡ length qs + st.number
   after_long = ap length (places_more l s m) ∙ steps_length st qs in_range
 
-  starts_in : (j : ℕ) → j < length qs + st.number → get_or starts j 0 + area (place_of ps j) ≤ length pyramid
+  starts_in : (j : ℕ) → j < length qs + st.number → start_at sources j + area (place_of ps j) ≤ length pyramid
   starts_in j b = rw (places_more l s m) at (w.starts_in j (let n = after_long in omega arith))
 
-  at_home_lem : (j : ℕ) → j < length qs + st.number → get_or made j false ≡ true → get_or starts j 0 ≡ (place_of ps j).home
+  at_home_lem : (j : ℕ) → j < length qs + st.number → made_at sources j ≡ true → start_at sources j ≡ (place_of ps j).home
   at_home_lem j b e = rw (places_more l s m) at (w.at_home_lem j (let n = after_long in omega arith) e)
 
-  here : (j : ℕ) → j < length qs + st.number → held st qs starts made pyramid picture work j ≡ get_or old j []
+  here : (j : ℕ) → j < length qs + st.number → held st qs sources pyramid picture work j ≡ get_or old j []
   here j b = rw (places_more l s m, list_more l s m) at (w.here j (let n = after_long in omega arith))
 
-  range_fits : RangeFits st qs starts made pyramid picture work
+  range_fits : RangeFits st qs sources pyramid picture work
   range_fits =
       let sd = places_sided l s pyramid f m (omega arith) in
       let n = sd.long in
@@ -104,14 +107,12 @@ module _ (l : ChannelList) (s : Steps) (pyramid : List ℤ) (f : RunFits l s pyr
         sides = sided_fit cs qs sd (list_ok l s pyramid f m h);
         starts_in = starts_in;
         at_home_lem = at_home_lem;
-        starts_long = w.starts_long;
-        made_long = w.made_long;
         picture_long = w.picture_long;
         work_long = w.work_long;
       }
 
   -- the same of a step and of places that are these
-  pub fits_here : (t : Step) → t ≡ st → (rs : List Place) → rs ≡ qs → RangeFits t rs starts made pyramid picture work
+  pub fits_here : (t : Step) → t ≡ st → (rs : List Place) → rs ≡ qs → RangeFits t rs sources pyramid picture work
   fits_here t et rs er = rw (et, er) range_fits
 
   -- ---- the samples before the step
@@ -123,11 +124,6 @@ module _ (l : ChannelList) (s : Steps) (pyramid : List ℤ) (f : RunFits l s pyr
 
   old_count : length old ≡ length cs + st.number
   old_count = parts_count (stepped st cs) _ ∙ stepped_length st cs (let n = cs_long in let i = in_range in omega arith)
-
-  old_long : (j : ℕ) → j < length qs + st.number → length (get_or old j []) ≡ area (place_of ps j)
-  old_long j b =
-      sym (ap length (here j b))
-      ∙ source_length (source_at starts made j) (area (place_of ps j)) pyramid _ (starts_in j b) (slice_length (eqb (place_of ps j).slot odd) picture work _ w.picture_long w.work_long)
 
   abbrev new : List (List ℤ)
   new = back_parts st cs old
@@ -150,13 +146,13 @@ module _ (l : ChannelList) (s : Steps) (pyramid : List ℤ) (f : RunFits l s pyr
       rw z (step_between st qs in_range k g (omega arith))
 
   -- ---- what the step leaves
-  module _ (starts2 : List ℕ) (made2 : List Bool) (picture2 work2 : List ℤ) (tk : TakenBack st qs starts made pyramid picture work starts2 made2 picture2 work2)
-      (es : length starts2 ≡ max_channels) (em : length made2 ≡ max_channels) (ep : length picture2 ≡ length pyramid) (ew : length work2 ≡ length pyramid) where
+  module _ (sources2 : Sources) (picture2 work2 : List ℤ) (tk : TakenBack st qs sources pyramid picture work sources2 picture2 work2)
+      (ep : length picture2 ≡ length pyramid) (ew : length work2 ≡ length pyramid) where
     -- entry k of the list before the step
     record Fine (k : ℕ) : Type 0 where
-      start_in : get_or starts2 k 0 + area (place_of qs k) ≤ length pyramid
-      home_is : get_or made2 k false ≡ true → get_or starts2 k 0 ≡ (place_of qs k).home
-      lies : lying_in (source_at starts2 made2 k) (area (place_of qs k)) pyramid (slice_of (eqb (place_of qs k).slot odd) picture2 work2) ≡ get_or new k []
+      start_in : start_at sources2 k + area (place_of qs k) ≤ length pyramid
+      home_is : made_at sources2 k ≡ true → start_at sources2 k ≡ (place_of qs k).home
+      lies : lying_in (source_at sources2 k) (area (place_of qs k)) pyramid (slice_of (is_odd (place_of qs k).slot) picture2 work2) ≡ get_or new k []
 
     -- in the range
     ranged : (i : ℕ) → i < st.number → Fine (st.begin + i)
@@ -164,12 +160,14 @@ module _ (l : ChannelList) (s : Steps) (pyramid : List ℤ) (f : RunFits l s pyr
         let k = st.begin + i in
         let n = in_range in
         let r = residuals_from_lem st qs in_range in
-        let es : get_or starts2 k 0 ≡ (place_of qs k).home = tk.closed.start_before k (omega arith) ∙ tk.marked.start_within k (omega arith) (omega arith) ∙ tk.homes_are k (omega arith) in
-        let em : get_or made2 k false ≡ true = tk.closed.made_before k (omega arith) ∙ tk.marked.made_within k (omega arith) (omega arith) in
+        let e : source_at sources2 k ≡ Home (place_of qs k).home =
+        tk.closed.before k (omega arith) ∙ tk.marked.within k (omega arith) (omega arith) ∙ ap (λ (p : Place). Home p.home) (tk.homes_are k (omega arith)) in
+        let es = ap start_of e in
+        let em = ap made_of e in
         let sd = places_sided l s pyramid f m (omega arith) in
         record {
           start_in = rw es ((places_laid l s pyramid f m (omega arith)).inside k (omega arith));
-          home_is = λ e. es;
+          home_is = λ t. es;
           lies =
               rw (em, es)
               (tk.ranged.range_made i b
@@ -181,17 +179,19 @@ module _ (l : ChannelList) (s : Steps) (pyramid : List ℤ) (f : RunFits l s pyr
     -- outside of it, from entry j
     outside : (k j : ℕ) → k < length qs → j < length qs + st.number → place_of ps j ≡ place_of qs k → root (length qs) st j ≡ k
         → ((i : ℕ) → i < st.number → k ≡ st.begin + i → ⊥) → get_or new k [] ≡ get_or old j []
-        → get_or starts2 k 0 ≡ get_or starts j 0 → get_or made2 k false ≡ get_or made j false → Fine k
-    outside k j b c e er out en es em =
+        → source_at sources2 k ≡ source_at sources j → Fine k
+    outside k j b c e er out en ek =
+        let es = ap start_of ek in
+        let em = ap made_of ek in
         record {
           start_in = rw es (rw e at (starts_in j c));
           home_is = λ t. es ∙ at_home_lem j c (sym em ∙ t) ∙ ap (λ (p : Place). p.home) e;
-          lies = rw (es, em) (by (get_or made j false) refl ∙ here j c ∙ sym en);
+          lies = rw (es, em) (by (made_at sources j) refl ∙ here j c ∙ sym en);
         }
       where
-        by : (t : Bool) → get_or made j false ≡ t
-            → part (get_or starts j 0) (area (place_of qs k)) (cond t (slice_of (eqb (place_of qs k).slot odd) picture2 work2) pyramid)
-            ≡ part (get_or starts j 0) (area (place_of ps j)) (cond t (slice_of (eqb (place_of ps j).slot odd) picture work) pyramid)
+        by : (t : Bool) → made_at sources j ≡ t
+            → part (start_at sources j) (area (place_of qs k)) (cond t (slice_of (is_odd (place_of qs k).slot) picture2 work2) pyramid)
+            ≡ part (start_at sources j) (area (place_of ps j)) (cond t (slice_of (is_odd (place_of ps j).slot) picture work) pyramid)
         by false et = rw e
         by true et = rw (at_home_lem j c et, ← e) (tk.ranged.others_kept j c (λ i l z. out i l (sym er ∙ z)))
 
@@ -200,25 +200,16 @@ module _ (l : ChannelList) (s : Steps) (pyramid : List ℤ) (f : RunFits l s pyr
         let n = in_range in
         let r = residuals_from_lem st qs in_range in
         outside k k (omega arith) (omega arith) (step_before st qs in_range k b) (root_average st qs in_range k (omega arith)) (λ i c z. absurd (omega arith)) (back_before st cs old cs_range old_count k b)
-        (tk.closed.start_before k (omega arith) ∙ tk.marked.start_else k (inl b)) (tk.closed.made_before k (omega arith) ∙ tk.marked.made_else k (inl b))
+        (tk.closed.before k (omega arith) ∙ tk.marked.else k (inl b))
 
-    behind_start : (t : Bool) → st.inplace ≡ t → (k : ℕ) → st.begin + st.number ≤ k → k < length qs → get_or starts2 k 0 ≡ get_or starts (k + cond t st.number 0) 0
-    behind_start true e k g b =
+    behind_source : (t : Bool) → st.inplace ≡ t → (k : ℕ) → st.begin + st.number ≤ k → k < length qs → source_at sources2 k ≡ source_at sources (k + cond t st.number 0)
+    behind_source true e k g b =
         let r : residuals_at (length qs) st ≡ st.begin + st.number = rw e in
-        tk.closed.start_behind k (omega arith) b ∙ tk.marked.start_else (k + st.number) (inr (omega arith))
-    behind_start false e k g b =
+        tk.closed.behind k (omega arith) b ∙ tk.marked.else (k + st.number) (inr (omega arith))
+    behind_source false e k g b =
         let z : k + 0 ≡ k = omega arith in
         let r : residuals_at (length qs) st ≡ length qs = rw e in
-        rw z (tk.closed.start_before k (omega arith) ∙ tk.marked.start_else k (inr g))
-
-    behind_made : (t : Bool) → st.inplace ≡ t → (k : ℕ) → st.begin + st.number ≤ k → k < length qs → get_or made2 k false ≡ get_or made (k + cond t st.number 0) false
-    behind_made true e k g b =
-        let r : residuals_at (length qs) st ≡ st.begin + st.number = rw e in
-        tk.closed.made_behind k (omega arith) b ∙ tk.marked.made_else (k + st.number) (inr (omega arith))
-    behind_made false e k g b =
-        let z : k + 0 ≡ k = omega arith in
-        let r : residuals_at (length qs) st ≡ length qs = rw e in
-        rw z (tk.closed.made_before k (omega arith) ∙ tk.marked.made_else k (inr g))
+        rw z (tk.closed.before k (omega arith) ∙ tk.marked.else k (inr g))
 
     shift_few : (t : Bool) → cond t st.number 0 ≤ st.number
     shift_few true = omega arith
@@ -229,7 +220,7 @@ module _ (l : ChannelList) (s : Steps) (pyramid : List ℤ) (f : RunFits l s pyr
         let t = st.inplace in
         let n = shift_few st.inplace in
         outside k (k + shift) b (omega arith) (behind_place t refl k g b) (root_behind (length qs) st k g b) (λ i c z. absurd (omega arith))
-        (back_behind st cs old cs_range old_count k g (let z = cs_long in omega arith)) (behind_start t refl k g b) (behind_made t refl k g b)
+        (back_behind st cs old cs_range old_count k g (let z = cs_long in omega arith)) (behind_source t refl k g b)
 
     fine : (k : ℕ) → k < length qs → Fine k
     fine k b = by (lt_or_ge k st.begin) (lt_or_ge k (st.begin + st.number))
@@ -245,7 +236,7 @@ module _ (l : ChannelList) (s : Steps) (pyramid : List ℤ) (f : RunFits l s pyr
         (λ k b.
         let n = cs_long in
         let x = fine k (omega arith) in
-        sym (ap length x.lies) ∙ source_length (source_at starts2 made2 k) (area (place_of qs k)) pyramid _ x.start_in (slice_length (eqb (place_of qs k).slot odd) picture2 work2 _ ep ew)
+        sym (ap length x.lies) ∙ source_length (source_at sources2 k) (area (place_of qs k)) pyramid _ x.start_in (slice_length (is_odd (place_of qs k).slot) picture2 work2 _ ep ew)
         ∙ sided_area cs qs (places_sided l s pyramid f m (omega arith)) k (omega arith))
 
     parts_are : parts cs (samples_at l s m pyramid) ≡ new
@@ -256,7 +247,7 @@ module _ (l : ChannelList) (s : Steps) (pyramid : List ℤ) (f : RunFits l s pyr
     unfolding step_back
     samples_long = ap length samples_are ∙ joined_length cs new new_shape ∙ list_total l s pyramid f m
 
-    back_more : Back l s m starts2 made2 pyramid picture2 work2
+    back_more : Back l s m sources2 pyramid picture2 work2
     back_more =
         record {
           inside = omega arith;
@@ -264,14 +255,12 @@ module _ (l : ChannelList) (s : Steps) (pyramid : List ℤ) (f : RunFits l s pyr
           at_home_lem = λ k b. (fine k b).home_is;
           here = λ k b. (fine k b).lies ∙ ap (λ (ps : List (List ℤ)). get_or ps k []) (sym parts_are);
           samples_long = samples_long;
-          starts_long = es;
-          made_long = em;
           picture_long = ep;
           work_long = ew;
         }
 
-  pub back_here : (t : Step) → t ≡ st → (rs : List Place) → rs ≡ qs → (starts2 : List ℕ) (made2 : List Bool) (picture2 work2 : List ℤ)
-      → TakenBack t rs starts made pyramid picture work starts2 made2 picture2 work2
-      → length starts2 ≡ length starts → length made2 ≡ length made → length picture2 ≡ length picture → length work2 ≡ length work → Back l s m starts2 made2 pyramid picture2 work2
-  back_here t et rs er starts2 made2 picture2 work2 tk es em ep ew =
-      back_more starts2 made2 picture2 work2 (rw (et, er) at tk) (es ∙ w.starts_long) (em ∙ w.made_long) (ep ∙ w.picture_long) (ew ∙ w.work_long)
+  pub back_here : (t : Step) → t ≡ st → (rs : List Place) → rs ≡ qs → (sources2 : Sources) (picture2 work2 : List ℤ)
+      → TakenBack t rs sources pyramid picture work sources2 picture2 work2
+      → length picture2 ≡ length picture → length work2 ≡ length work → Back l s m sources2 pyramid picture2 work2
+  back_here t et rs er sources2 picture2 work2 tk ep ew =
+      back_more sources2 picture2 work2 (rw (et, er) at tk) (ep ∙ w.picture_long) (ew ∙ w.work_long)

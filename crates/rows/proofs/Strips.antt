@@ -26,27 +26,15 @@ rows_room y c lines n h = let r : (y + c) * n ≤ lines * n = mul-le-mul_right n
 pub rows_span : (y c n : ℕ) → (y + c) * n - y * n ≡ c * n
 rows_span y c n = rw (add-mul y c n) (omega arith)
 
--- they start and end inside, at any of the three widths
-pub record Inside (y c lines n : ℕ) : Type 0 where
-  pub start : y * n ≤ (y + c) * n
-  pub end : (y + c) * n ≤ lines * n
+-- they start and end inside
+pub row_end : (e lines n : ℕ) → e ≤ lines → e * n ≤ lines * n
+row_end e lines n h = mul-le-mul_right n h
 
-pub record Room (y c lines m n : ℕ) : Type 0 where
-  pub among : y + c ≤ lines
-  pub averages : Inside y c lines m
-  pub residuals : Inside y c lines n
-  pub samples : Inside y c lines (m + n)
+pub row_start : (y c n : ℕ) → y * n ≤ (y + c) * n
+row_start y c n = let h : y ≤ y + c = omega arith in mul-le-mul_right n h
 
-pub room : (y c lines m n : ℕ) → y + c ≤ lines → Room y c lines m n
-room y c lines m n h = record { among = h; averages = inside m; residuals = inside n; samples = inside (m + n) }
-  where
-    inside : (n : ℕ) → Inside y c lines n
-    inside n = let r = rows_room y c lines n h in let e = add-mul y c n in record { start = omega arith; end = omega arith }
-
--- and so do their samples of an outer line that is not absent
-pub outer_inside : (y c lines : ℕ) (xs : List ℤ) → y + c ≤ lines → (length xs ≡ 0) ⊎ (length xs ≡ lines) → (length xs ≡ 0) ⊎ (y + c ≤ length xs)
-outer_inside y c lines xs h (inl e) = inl e
-outer_inside y c lines xs h (inr e) = inr (omega arith)
+pub size_fits : (lines size : ℕ) → 0 < lines → size ≤ lines * size
+size_fits lines size h = let s : 1 * size ≤ lines * size = mul-le-mul_right size h in omega arith
 
 pub part_length : (from n : ℕ) (xs : List ℤ) → from + n ≤ length xs → length (take n (drop from xs)) ≡ n
 part_length from n xs h = length-take-le n (drop from xs) (rw (length-drop from xs) (omega arith))

@@ -24,6 +24,7 @@ fn outer_part(line: &[i32], from: usize, to: usize) -> &[i32]
 }
 
 // Rows by eights; how many were done.
+#[tactic(auto, using(crate::proofs::Strips::row_start, crate::proofs::Strips::row_end, crate::proofs::Strips::size_fits))]
 fn rows_by_eight(
     avg: &[i32],
     res: &[i32],
@@ -37,9 +38,9 @@ fn rows_by_eight(
     requires { Fitting (squeeze true lines m n avg.now res.now next.now prev.now) × (0 < m) × (length out.old ≡ lines * (m + n)) }
     ensures { (result ≤ lines) × (lines < result + 8) × (out.new ≡ take (result * (m + n)) (uncut (squeeze true lines m n avg.now res.now next.now prev.now)) ++ drop (result * (m + n)) out.old) }
 {
-    let mut y = 0;
-    while 8 <= lines - y {
+    for k in 0..lines / 8 {
         let size = m + n;
+        let y = 8 * k;
         let e = y + 8;
         eight_rows::unsqueeze_eight_rows(
             &avg[y * m..e * m],
@@ -50,12 +51,12 @@ fn rows_by_eight(
             n,
             &mut out[y * size..e * size],
         );
-        y = e;
     }
-    y
+    lines / 8 * 8
 }
 
 // The rows from the given one on, one by one.
+#[tactic(auto, using(crate::proofs::Strips::row_start, crate::proofs::Strips::row_end, crate::proofs::Strips::size_fits))]
 fn rows_singly(
     avg: &[i32],
     res: &[i32],
@@ -70,8 +71,7 @@ fn rows_singly(
     requires { Fitting (squeeze true lines m n avg.now res.now next.now prev.now) × (0 < m) × (length out.old ≡ lines * (m + n)) × (from ≤ lines) }
     ensures { out.new ≡ take (from * (m + n)) out.old ++ drop (from * (m + n)) (uncut (squeeze true lines m n avg.now res.now next.now prev.now)) }
 {
-    let mut y = from;
-    while y < lines {
+    for y in from..lines {
         let size = m + n;
         let e = y + 1;
         one_row(
@@ -81,7 +81,6 @@ fn rows_singly(
             outer_part(prev, y, e),
             &mut out[y * size..e * size],
         );
-        y = e;
     }
 }
 

@@ -5,6 +5,9 @@ ghost use Rattle.line.specs.Line.{or_else};
 ghost use Rattle.line.specs.Uncut.{squeeze, uncut, Fitting, outer};
 ghost use Rattle.line.specs.Pairs.{lines_of, Ordinary, Ended};
 
+use pair::Pair;
+use tendency::Branching;
+
 // The sample of an outer line, or what stands in for it.
 fn outer_sample(line: &[i32], other: i32) -> i32
     ensures { result ≡ or_else (outer line.now 0) other }
@@ -31,9 +34,12 @@ fn ordinary_pairs(avg: &[i32], res: &[i32], prior: i32, to: usize, out: &mut [i3
 {
     let mut before = prior;
     for i in 0..to {
-        let p = pair::unsqueeze(avg[i], res[i], avg[i + 1], before);
-        let first = p.first;
-        let second = p.second;
+        let Pair { first, second } = pair::unsqueeze::<Branching>(
+            avg[i],
+            res[i],
+            avg[i + 1],
+            before,
+        );
         out[i + i] = first;
         out[i + i + 1] = second;
         before = second;
@@ -48,9 +54,12 @@ fn last_samples(avg: &[i32], res: &[i32], next: &[i32], prior: i32, out: &mut [i
 {
     let n = res.len();
     let i = n - 1;
-    let p = pair::unsqueeze(avg[i], res[i], last_next(avg, next, n), prior);
-    let first = p.first;
-    let second = p.second;
+    let Pair { first, second } = pair::unsqueeze::<Branching>(
+        avg[i],
+        res[i],
+        last_next(avg, next, n),
+        prior,
+    );
     out[i + i] = first;
     out[i + i + 1] = second;
     if n < avg.len() {

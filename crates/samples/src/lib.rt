@@ -8,29 +8,30 @@ ghost use Rattle.samples.specs.Samples.{byte_at, word_at, sample_at, stored};
 ghost use Rattle.samples.specs.Rooms.{Holds, Exactly};
 ghost use Rattle.samples.specs.Rooms as Rooms;
 
-fn byte_at(bytes: &[u8], at: usize) -> u32
-    ensures { (result ≡ byte_at bytes.now at) × (result < 256) }
+fn byte_at(bytes: &[u8], at: usize) -> u8
+    ensures { result ≡ byte_at bytes.now at }
 {
-    if at < bytes.len() {
-        bytes[at] as u32
-    } else {
-        0
-    }
+    bytes.get(at).copied().unwrap_or(0)
 }
 
 // The number that starts at `at`.
+#[tactic(auto, unfolding(crate::specs::Samples::word_at))]
 pub fn word_at(bytes: &[u8], at: usize) -> u32
     ensures { result ≡ word_at bytes.now at }
 {
     if bytes.len() <= at {
         return 0;
     }
-    let low = byte_at(bytes, at) + 0x100 * byte_at(bytes, at + 1);
-    let high = byte_at(bytes, at + 2) + 0x100 * byte_at(bytes, at + 3);
-    low + 0x1_0000 * high
+    u32::from_le_bytes([
+        byte_at(bytes, at),
+        byte_at(bytes, at + 1),
+        byte_at(bytes, at + 2),
+        byte_at(bytes, at + 3),
+    ])
 }
 
 // The sample that starts at `at`.
+#[tactic(auto, unfolding(crate::specs::Samples::sample_at))]
 pub fn sample_at(bytes: &[u8], at: usize) -> i32
     ensures { result ≡ sample_at bytes.now at }
 {
@@ -41,8 +42,8 @@ pub fn sample_at(bytes: &[u8], at: usize) -> i32
 pub fn decode(bytes: &[u8], s: &mut [i32])
     ensures { Holds (stored bytes.now) s.new 0 (length s.old) }
 {
-    for i in 0..s.len() {
-        s[i] = sample_at(bytes, 4 * i);
+    for (i, x) in s.iter_mut().enumerate() {
+        *x = sample_at(bytes, 4 * i);
     }
 }
 
@@ -50,14 +51,10 @@ pub fn decode(bytes: &[u8], s: &mut [i32])
 pub fn same(bytes: &[u8], s: &[i32]) -> bool
     ensures { Exactly result (Holds (stored bytes.now) s.now 0 (length s.now)) }
 {
-    for i in 0..s.len() {
-        if s[i] != sample_at(bytes, 4 * i) {
-            return false;
-        }
-    }
-    true
+    (0..s.len()).all(|i| s[i] == sample_at(bytes, 4 * i))
 }
 
+#[tactic(auto, using(std::proofs::lemmas::Int::to_z_pos), unfolding(crate::specs::Rooms::mark))]
 fn mark(i: usize) -> i32
     ensures { result ≡ Rooms.mark i }
 {
@@ -68,8 +65,8 @@ fn mark(i: usize) -> i32
 pub fn fill(s: &mut [i32])
     ensures { Holds Rooms.mark s.new 0 (length s.old) }
 {
-    for i in 0..s.len() {
-        s[i] = mark(i);
+    for (i, x) in s.iter_mut().enumerate() {
+        *x = mark(i);
     }
 }
 
@@ -77,13 +74,5 @@ pub fn fill(s: &mut [i32])
 pub fn kept(s: &[i32], from: usize, to: usize) -> bool
     ensures { Exactly result ((to ≤ length s.now) × Holds Rooms.mark s.now from to) }
 {
-    if s.len() < to {
-        return false;
-    }
-    for i in from..to {
-        if s[i] != mark(i) {
-            return false;
-        }
-    }
-    true
+    to <= s.len() && (from..to).all(|i| s[i] == mark(i))
 }

@@ -1,7 +1,7 @@
-// The tendency of three neighbouring samples (document 01, "The pair"; the
-// Rust's `smooth_tendency_impl`), in two forms equal to one definition: one
-// that returns early on a turn, for a line taken pair by pair, and one without
-// a branch, for the lanes of a block. Total on all 32-bit values.
+// The tendency of three neighbouring samples (the Rust's
+// `smooth_tendency_impl`), computed in two ways under one contract: with an
+// early return on a turn, for a line taken pair by pair, and without a branch,
+// for the lanes of a block. Total on all 32-bit values.
 #![tactic(auto)]
 
 ghost use Rattle.std.specs.Prelude.{◌≡◌};
@@ -9,12 +9,14 @@ ghost use Rattle.tendency.specs.Tendency as Tend;
 
 use arith32::{lowest_bit, third, wrapping_abs, wrapping_add, wrapping_sub};
 
+#[tactic(auto, unfolding(crate::specs::Tendency::opposite))]
 fn opposite(x: i32, y: i32) -> bool
     ensures { result ≡ Tend.opposite x y }
 {
     ((x < 0) != (y < 0)) & ((x != 0) & (y != 0))
 }
 
+#[tactic(auto, unfolding(crate::specs::Tendency::slope))]
 fn slope(p: i32, r: i32) -> i32
     ensures { result ≡ Tend.slope p r }
 {
@@ -34,6 +36,7 @@ fn clamp_before(p: i32, v: i32) -> i32
     }
 }
 
+#[tactic(auto, unfolding(crate::specs::Tendency::clamp_after))]
 fn clamp_after(q: i32, v: i32) -> i32
     ensures { result ≡ Tend.clamp_after q v }
 {
@@ -45,6 +48,7 @@ fn clamp_after(q: i32, v: i32) -> i32
     }
 }
 
+#[tactic(auto, unfolding(crate::specs::Tendency::negated_if))]
 fn negated_if(z: i32, v: i32) -> i32
     ensures { result ≡ Tend.negated_if z v }
 {
@@ -53,6 +57,7 @@ fn negated_if(z: i32, v: i32) -> i32
 }
 
 // The tendency where x = a - b and y = b - c do not turn; z = a - c.
+#[tactic(auto, unfolding(crate::specs::Tendency::monotone))]
 fn monotone(x: i32, y: i32, z: i32) -> i32
     ensures { result ≡ Tend.monotone x y z }
 {
@@ -62,6 +67,7 @@ fn monotone(x: i32, y: i32, z: i32) -> i32
 }
 
 // `opposite` by branches: cheaper where the answer is branched on.
+#[tactic(auto, unfolding(crate::specs::Tendency::opposite))]
 fn turns(x: i32, y: i32) -> bool
     ensures { result ≡ Tend.opposite x y }
 {
@@ -74,24 +80,39 @@ fn turns(x: i32, y: i32) -> bool
     }
 }
 
-pub fn smooth_tendency(a: i32, b: i32, c: i32) -> i32
-    ensures { result ≡ Tend.tendency a b c }
-{
-    let x = wrapping_sub(a, b);
-    let y = wrapping_sub(b, c);
-    if turns(x, y) {
-        return 0;
-    }
-    monotone(x, y, wrapping_sub(a, c))
+// The tendency of a (previous output), b (average) and c (next average). Each
+// way to compute it has the same contract, so what is made with a tendency is
+// written and proved once for all ways.
+pub trait SmoothTendency {
+    fn smooth_tendency(a: i32, b: i32, c: i32) -> i32
+        ensures { result ≡ Tend.tendency a b c };
 }
 
-// The same, all computed and the turn selected last, so that lanes run side by
-// side.
-pub fn smooth_tendency_lane(a: i32, b: i32, c: i32) -> i32
-    ensures { result ≡ Tend.tendency a b c }
-{
-    let x = wrapping_sub(a, b);
-    let y = wrapping_sub(b, c);
-    let t = monotone(x, y, wrapping_sub(a, c));
-    if opposite(x, y) { 0 } else { t }
+// Leaves early on a turn: for a line taken pair by pair, where each pair waits
+// on the one before.
+pub struct Branching;
+
+#[tactic(auto, unfolding(crate::specs::Tendency::tendency))]
+impl SmoothTendency for Branching {
+    fn smooth_tendency(a: i32, b: i32, c: i32) -> i32 {
+        let x = wrapping_sub(a, b);
+        let y = wrapping_sub(b, c);
+        if turns(x, y) {
+            return 0;
+        }
+        monotone(x, y, wrapping_sub(a, c))
+    }
+}
+
+// Computes all and selects the turn last, so that lanes run side by side.
+pub struct Branchless;
+
+#[tactic(auto, unfolding(crate::specs::Tendency::tendency))]
+impl SmoothTendency for Branchless {
+    fn smooth_tendency(a: i32, b: i32, c: i32) -> i32 {
+        let x = wrapping_sub(a, b);
+        let y = wrapping_sub(b, c);
+        let t = monotone(x, y, wrapping_sub(a, c));
+        if opposite(x, y) { 0 } else { t }
+    }
 }

@@ -1,5 +1,5 @@
 -- The three results of a call of the writer (specs/Write.antt) from the answers to its questions. Assumes nothing.
-use mathlib.Core.Path.{◌≡◌}
+use mathlib.Core.Path.{◌≡◌, sym, ◌∙◌}
 use mathlib.Core.Bool.{true, false, ◌&&◌, and-eq-true_iff}
 use mathlib.Core.List.{List}
 use Prim.Native.Nat.{ℕ}
@@ -13,7 +13,9 @@ use Rattle.list.specs.Lists.{channels, total}
 use Rattle.list.specs.Questions.{counted_total}
 use Rattle.plan.specs.declared.Steps.{Steps}
 use Rattle.plan.specs.Steps.{steps}
-use Rattle.plan.specs.Plans.{judge_plan, meant}
+use Rattle.plan.specs.Plans.{Planned, judge_plan, meant, meant_steps}
+use Rattle.plan.proofs.Runs.{none_refused}
+use Rattle.plan.proofs.Answers.{meaning_answer, plan_meaning}
 use Rattle.plan.proofs.Judged.{judged_total}
 use Rattle.runs.specs.Runs.{squeezed}
 use Rattle.buffer.specs.Buffer.{zeros}
@@ -33,6 +35,11 @@ fit_lengths cs picture pyramid work e =
     let a = (and-eq-true_iff (eqb (length picture) (total cs)) (eqb (length pyramid) (total cs) && eqb (length work) (total cs))).0 e in
     let b = (and-eq-true_iff (eqb (length pyramid) (total cs)) (eqb (length work) (total cs))).0 a.1 in
     (eqb-true (length picture) (total cs) a.0, eqb-true (length pyramid) (total cs) b.0, eqb-true (length work) (total cs) b.1)
+
+-- ---- the steps that are meant
+-- p is what `meant_steps` gave
+pub meant_found : (version : ℕ) (l : ChannelList) (s : Steps) → judge_plan version l s ≡ 0 → (p : Planned) → p ≡ meant_steps version l s → p.answer ≡ 0
+meant_found version l s ok p e = meaning_answer version l s p e ∙ (none_refused _ _ (sym (plan_meaning version l s) ∙ ok)).0
 
 -- ---- the results
 module _ (version : ℕ) (l : ChannelList) (s : Steps) (picture pyramid work : List ℤ) where

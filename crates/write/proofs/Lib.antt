@@ -4,8 +4,8 @@ pub mod Lying
 pub mod Squeezing
 pub mod Stepping
 pub mod Running
+pub mod First
 pub mod Moving
 pub mod Settling
 pub mod Homes
-pub mod First
 pub mod Answered

@@ -1,37 +1,32 @@
 -- The samples at a place (`lying` of specs/Standing.antt) when a part of one slice was written: those at the place itself, and those of a place that
 -- lies apart. Assumes nothing.
 use mathlib.Core.Path.{◌≡◌, refl}
-use mathlib.Core.Bool.{Bool, true, false, cond}
+use mathlib.Core.Bool.{Bool}
 use mathlib.Core.List.{List}
 use Prim.Native.Nat.{◌+◌, ◌≤◌}
 use native.Mathlib.Omega.{arith}
-use borrow.Author.Tests.{ne_eqb}
-use lib.Dec.{eqb}
 use lib.IntN.{ℤ}
 use lib.ListN.{length}
-use Rattle.channel.specs.Channel as Channel
+use Rattle.places.specs.declared.Slot.{Slot}
+use Rattle.places.specs.declared.Slot.TheVariants.{Unmade, Odd, Even}
+use Rattle.places.specs.declared.Place.{Place}
 use Rattle.places.specs.Places as Places
-use Rattle.places.specs.Places.{Place, area, unmade, odd, bare}
+use Rattle.places.specs.Places.{area, bare}
 use Rattle.places.specs.Laid.{Apart, part, written}
 use Rattle.places.proofs.Parts.{part_own, part_other}
-use Rattle.write.specs.Standing as Standing
-use Rattle.write.specs.Standing.{Alike, lying, halves, Turned}
+use Rattle.write.specs.Standing.{Alike, slice_of, lying, halves, Turned}
 use Rattle.write.proofs.Putting.{halves_length}
-
-halves_area : (h : Bool) (p : Place) (xs : List ℤ) → length (halves h (bare p) xs) ≡ area p
-unfolding Channel.samples
-halves_area h p xs = halves_length h (bare p) xs
 
 -- a place whose part of either slice is as before
 pub lying_same : (picture odds evens odds' evens' : List ℤ) (q : Place) → part q.home (area q) odds' ≡ part q.home (area q) odds
     → part q.home (area q) evens' ≡ part q.home (area q) evens → lying picture odds' evens' q ≡ lying picture odds evens q
-unfolding lying Standing.slice_of
-lying_same picture odds evens odds' evens' q a b = go (eqb q.slot unmade) (eqb q.slot odd)
+unfolding lying
+lying_same picture odds evens odds' evens' q a b = go q.slot
   where
-    go : (u o : Bool) → part q.home (area q) (cond u picture (cond o odds' evens')) ≡ part q.home (area q) (cond u picture (cond o odds evens))
-    go true o = refl
-    go false true = a
-    go false false = b
+    go : (s : Slot) → part q.home (area q) (slice_of picture odds' evens' s) ≡ part q.home (area q) (slice_of picture odds evens s)
+    go Unmade = refl
+    go Odd = a
+    go Even = b
 
 -- ---- a channel squeezed from where it stands to its home in the other slice
 module _ (h : Bool) (p : Place) (picture odds evens : List ℤ) (alike : Alike picture odds evens) (inside : p.home + area p ≤ length picture) where
@@ -41,18 +36,18 @@ module _ (h : Bool) (p : Place) (picture odds evens : List ℤ) (alike : Alike p
   filled_own : (from to : List ℤ) → length to ≡ length picture → part p.home (area p) (filled from to) ≡ halves h (bare p) (part p.home (area p) from)
   filled_own from to e =
       let ys = halves h (bare p) (part p.home (area p) from) in
-      let l = halves_area h p (part p.home (area p) from) in
+      let l = halves_length h p (part p.home (area p) from) in
       rw l at (part_own p.home ys to (omega arith))
 
   filled_other : (from to : List ℤ) → length to ≡ length picture → (q : Place) → q.home + area q ≤ length picture
       → Apart q.home (area q) p.home (area p) → part q.home (area q) (filled from to) ≡ part q.home (area q) to
   filled_other from to e q i a =
       let ys = halves h (bare p) (part p.home (area p) from) in
-      let l = halves_area h p (part p.home (area p) from) in
+      let l = halves_length h p (part p.home (area p) from) in
       part_other q.home (area q) p.home ys to (omega arith) (omega arith) (rw l a)
 
-  pub unmade_turned : (odds' : List ℤ) → p.slot ≡ unmade → odds' ≡ filled picture odds → Turned h p picture odds evens odds' evens
-  unfolding lying Standing.slice_of Places.turned
+  pub unmade_turned : (odds' : List ℤ) → p.slot ≡ Unmade → odds' ≡ filled picture odds → Turned h p picture odds evens odds' evens
+  unfolding lying Places.turned
   unmade_turned odds' s e =
       let l = alike.odds_length in
       record {
@@ -60,8 +55,8 @@ module _ (h : Bool) (p : Place) (picture odds evens : List ℤ) (alike : Alike p
         kept = λ q i a. lying_same picture odds evens odds' evens q (rw e (filled_other picture odds l q i a)) refl;
       }
 
-  pub odd_turned : (evens' : List ℤ) → p.slot ≡ odd → evens' ≡ filled odds evens → Turned h p picture odds evens odds evens'
-  unfolding lying Standing.slice_of Places.turned
+  pub odd_turned : (evens' : List ℤ) → p.slot ≡ Odd → evens' ≡ filled odds evens → Turned h p picture odds evens odds evens'
+  unfolding lying Places.turned
   odd_turned evens' s e =
       let l = alike.evens_length in
       record {
@@ -69,11 +64,11 @@ module _ (h : Bool) (p : Place) (picture odds evens : List ℤ) (alike : Alike p
         kept = λ q i a. lying_same picture odds evens odds evens' q refl (rw e (filled_other odds evens l q i a));
       }
 
-  pub even_turned : (odds' : List ℤ) → (p.slot ≡ unmade → ⊥) → (p.slot ≡ odd → ⊥) → odds' ≡ filled evens odds → Turned h p picture odds evens odds' evens
-  unfolding lying Standing.slice_of Places.turned
-  even_turned odds' u o e =
+  pub even_turned : (odds' : List ℤ) → p.slot ≡ Even → odds' ≡ filled evens odds → Turned h p picture odds evens odds' evens
+  unfolding lying Places.turned
+  even_turned odds' s e =
       let l = alike.odds_length in
       record {
-        own = rw (ne_eqb p.slot unmade u, ne_eqb p.slot odd o, e) (filled_own evens odds l);
+        own = rw (s, e) (filled_own evens odds l);
         kept = λ q i a. lying_same picture odds evens odds' evens q (rw e (filled_other evens odds l q i a)) refl;
       }

@@ -4,25 +4,41 @@ use mathlib.Core.Path.{◌≡◌, refl, ◌∙◌}
 use mathlib.Core.Bool.{Bool, true, false, cond, ◌&&◌, not, and-eq-true_iff}
 use mathlib.Core.List.{List}
 use mathlib.Core.Logic.{⊎_swap}
+use denote.Enum.Bare.{sameb}
 use Prim.Native.Nat.{ℕ, ◌+◌, ◌<◌, ◌≤◌}
 use native.Mathlib.Omega.{arith}
 use borrow.Author.Tests.{eqb-true, ltb-true, ltb-false, not-true}
 use lib.Dec.{eqb, ltb}
 use lib.IntN.{ℤ}
 use lib.ListN.{length}
-use Rattle.places.specs.Places.{Place, area, unmade, odd}
+use Rattle.places.specs.contracts.Slot.{the_type}
+use Rattle.places.specs.declared.Slot.{Slot}
+use Rattle.places.specs.declared.Slot.TheVariants.{Unmade, Odd, Even}
+use Rattle.places.specs.declared.Place.{Place}
+use Rattle.places.specs.Places.{area, is_unmade, is_odd}
 use Rattle.places.specs.Laid.{part, written}
 use Rattle.places.proofs.Parts.{part_length, part_own, part_other}
 use Rattle.write.specs.Standing as Standing
-use Rattle.write.specs.Standing.{lying, Ranged}
+use Rattle.write.specs.Standing.{slice_of, lying, Ranged}
 use Rattle.write.specs.Settled as Settled
 use Rattle.write.specs.Settled.{settling, Moved}
 use Rattle.write.proofs.Lying.{lying_same}
 
+-- ---- slots
+pub odd_tested : (s : Slot) → sameb the_type s Odd ≡ is_odd s
+odd_tested Unmade = refl
+odd_tested Odd = refl
+odd_tested Even = refl
+
+odd_is : (s : Slot) → is_odd s ≡ true → s ≡ Odd
+odd_is Unmade e = cc
+odd_is Odd e = refl
+odd_is Even e = cc
+
 -- ---- one channel
 module _ (start : ℕ) (p : Place) (pyramid work : List ℤ) where
   -- it moves
-  module _ (work' : List ℤ) (l : length work ≡ length pyramid) (i : p.home + area p ≤ length pyramid) (t : eqb p.slot odd && not (eqb p.home start) ≡ true)
+  module _ (work' : List ℤ) (l : length work ≡ length pyramid) (i : p.home + area p ≤ length pyramid) (t : is_odd p.slot && not (eqb p.home start) ≡ true)
       (e : work' ≡ written p.home (part p.home (area p) pyramid) work) where
     moved_own : part p.home (area p) work' ≡ part p.home (area p) pyramid
     moved_own =
@@ -30,10 +46,10 @@ module _ (start : ℕ) (p : Place) (pyramid work : List ℤ) where
         rw e (rw n at (part_own p.home (part p.home (area p) pyramid) work (omega arith)))
 
     settling_own : (picture : List ℤ) → settling picture pyramid work' start p ≡ lying picture pyramid work p
-    unfolding Settled.settling Standing.lying Standing.slice_of
+    unfolding Settled.settling Standing.lying
     settling_own picture =
-        let b = (and-eq-true_iff (eqb p.slot odd) (not (eqb p.home start))).0 t in
-        rw (eqb-true p.slot odd b.0, not-true (eqb p.home start) b.1) moved_own
+        let b = (and-eq-true_iff (is_odd p.slot) (not (eqb p.home start))).0 t in
+        rw (odd_is p.slot b.0, not-true (eqb p.home start) b.1) moved_own
 
     pub moved : Moved start p pyramid work work'
     moved =
@@ -45,17 +61,17 @@ module _ (start : ℕ) (p : Place) (pyramid work : List ℤ) where
         }
 
   -- it stays
-  pub unmoved : eqb p.slot odd && not (eqb p.home start) ≡ false → Moved start p pyramid work work
-  unfolding Settled.settling Standing.lying Standing.slice_of
-  unmoved t = record { own = λ picture. go picture (eqb p.slot unmade) (eqb p.slot odd) (eqb p.home start) refl t; kept = λ q j a. refl }
+  pub unmoved : is_odd p.slot && not (eqb p.home start) ≡ false → Moved start p pyramid work work
+  unfolding Settled.settling Standing.lying
+  unmoved t = record { own = λ picture. go picture p.slot (eqb p.home start) refl t; kept = λ q j a. refl }
     where
-      go : (picture : List ℤ) (u o s : Bool) → eqb p.home start ≡ s → o && not s ≡ false
-          → cond u (part p.home (area p) picture) (cond (o && s) (part start (area p) pyramid) (part p.home (area p) work))
-          ≡ part p.home (area p) (cond u picture (cond o pyramid work))
-      go picture true o s e f = refl
-      go picture false false s e f = refl
-      go picture false true true e f = rw (eqb-true p.home start e)
-      go picture false true false e f = cc
+      go : (picture : List ℤ) (s : Slot) (b : Bool) → eqb p.home start ≡ b → is_odd s && not b ≡ false
+          → cond (is_unmade s) (part p.home (area p) picture) (cond (is_odd s && b) (part start (area p) pyramid) (part p.home (area p) work))
+          ≡ part p.home (area p) (slice_of picture pyramid work s)
+      go picture Unmade b e f = refl
+      go picture Odd true e f = rw (eqb-true p.home start e)
+      go picture Odd false e f = cc
+      go picture Even b e f = refl
 
 -- ---- the channels of a list, the first k of them done
 pub record Moving (count : ℕ) (at : ℕ → Place) (start : ℕ → ℕ) (pyramid first work : List ℤ) (k : ℕ) : Type 0 where

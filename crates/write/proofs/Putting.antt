@@ -1,6 +1,6 @@
 -- A slice of which a part was lent (`written` of crate places): a channel squeezed into the part, or samples copied into it. Assumes nothing.
-use mathlib.Core.Path.{◌≡◌, sym, ap, ◌∙◌}
-use mathlib.Core.Bool.{Bool}
+use mathlib.Core.Path.{◌≡◌, refl, sym, ap, ◌∙◌}
+use mathlib.Core.Bool.{Bool, true, false, cond, not}
 use mathlib.Core.List.{List, ◌++◌}
 use Prim.Native.Nat.{ℕ, ◌+◌, ◌-◌, ◌≤◌}
 use native.Mathlib.Omega.{arith}
@@ -9,12 +9,16 @@ use lib.ListN.{length, take, drop, length-append}
 use lib.Seq.{drop-drop}
 use Rattle.numbers.specs.Numbers.{max_side}
 use Rattle.channel.specs.declared.Channel.{Channel}
-use Rattle.channel.specs.Channel.{samples}
+use Rattle.channel.specs.Channel as Channel
+use Rattle.channel.specs.Channel.{sides_fit}
+use Rattle.channel.proofs.Sides.{fit_sides}
 use Rattle.list.proofs.Totals.{parts_samples}
 use Rattle.buffer.specs.Buffer.{copied}
 use Rattle.buffer.proofs.Overwritten.{copied_all}
 use Rattle.forward.specs.Into.{squeezed_into}
 use Rattle.forward.proofs.Fitted.{squeezed_fit}
+use Rattle.places.specs.declared.Place.{Place}
+use Rattle.places.specs.Places.{area, bare}
 use Rattle.places.specs.Laid as Laid
 use Rattle.places.specs.Laid.{part, written}
 use Rattle.places.proofs.Parts.{part_length}
@@ -24,12 +28,13 @@ use Rattle.runs.proofs.OneChannel.{samples_by, averages_length, residuals_length
 use Rattle.write.specs.Standing as Standing
 use Rattle.write.specs.Standing.{halves}
 
-pub halves_length : (h : Bool) (c : Channel) (xs : List ℤ) → length (halves h c xs) ≡ samples c
-unfolding Standing.halves
-halves_length h c xs =
-    let a = averages_length h c xs in
-    let r = residuals_length h c xs in
-    let e = parts_samples h c in
+-- averages and residuals fill their channel's home
+pub halves_length : (h : Bool) (p : Place) (xs : List ℤ) → length (halves h (bare p) xs) ≡ area p
+unfolding Standing.halves Channel.samples
+halves_length h p xs =
+    let a = averages_length h (bare p) xs in
+    let r = residuals_length h (bare p) xs in
+    let e = parts_samples h (bare p) in
     simp length-append (omega arith)
 
 -- a part that was lent, n samples from `at` on, and came back as ys
@@ -37,34 +42,49 @@ put_back : (at n : ℕ) (ys xs : List ℤ) → length ys ≡ n → take at xs ++
 unfolding Laid.written
 put_back at n ys xs e = rw (drop-drop n at xs, e)
 
-module _ (at end n : ℕ) (e : end ≡ at + n) where
-  count_so : end - at ≡ n
-  count_so = omega arith
+-- the side that is not halved, and the limit of both
+across : (h : Bool) (c : Channel) → cond (not h) c.width c.height ≡ lines_of h c
+across true c = refl
+across false c = refl
 
-  pub copy_put : (from to out : List ℤ) (start stop : ℕ) → stop ≡ start + n → at + n ≤ length from → start + n ≤ length to
-      → out ≡ copied (take (end - at) (drop at from)) (take (stop - start) (drop start to))
-      → take start to ++ (out ++ drop (stop - start) (drop start to)) ≡ written start (part at n from) to
+fit_lines : (h : Bool) (c : Channel) → sides_fit c ≡ true → (lines_of h c ≤ max_side) × (size_of h c ≤ max_side)
+fit_lines h c e = go h (fit_sides c e)
+  where
+    go : (b : Bool) → (c.width ≤ max_side) × (c.height ≤ max_side) → (lines_of b c ≤ max_side) × (size_of b c ≤ max_side)
+    go true f = (f.1, f.0)
+    go false f = f
+
+-- the part at a place is lent, `n` its area
+module _ (p : Place) (n : ℕ) (e : n ≡ area p) where
+  count_so : (at : ℕ) → at + n - at ≡ area p
+  count_so at = omega arith
+
+  pub copy_put : (from to out : List ℤ) (start : ℕ) → p.home + area p ≤ length from → start + area p ≤ length to
+      → out ≡ copied (take (p.home + n - p.home) (drop p.home from)) (take (start + n - start) (drop start to))
+      → take start to ++ (out ++ drop (start + n - start) (drop start to)) ≡ written start (part p.home (area p) from) to
   unfolding Laid.part
-  copy_put from to out start stop es i j eo =
-      let c = count_so in
-      let d : stop - start ≡ n = omega arith in
-      let l = part_length at n from i in
-      let m = part_length start n to j in
-      let o : out ≡ part at n from = (rw (c, d) at eo) ∙ copied_all (part at n from) (part start n to) (l ∙ sym m) in
-      rw d (put_back start n out to (ap length o ∙ l) ∙ ap (λ (ys : List ℤ). written start ys to) o)
+  copy_put from to out start i j eo =
+      let c = count_so p.home in
+      let d = count_so start in
+      let l = part_length p.home (area p) from i in
+      let m = part_length start (area p) to j in
+      let o : out ≡ part p.home (area p) from = (rw (c, d) at eo) ∙ copied_all (part p.home (area p) from) (part start (area p) to) (l ∙ sym m) in
+      rw d (put_back start (area p) out to (ap length o ∙ l) ∙ ap (λ (ys : List ℤ). written start ys to) o)
 
-module _ (h : Bool) (c : Channel) (home end : ℕ) (e : end ≡ home + samples c) where
-  pub channel_put : (from to out : List ℤ) (lines size : ℕ) → lines ≡ lines_of h c → size ≡ size_of h c → lines ≤ max_side → size ≤ max_side
-      → home + samples c ≤ length from → home + samples c ≤ length to
-      → out ≡ squeezed_into h lines size (take (end - home) (drop home from)) (take (end - home) (drop home to))
-      → take home to ++ (out ++ drop (end - home) (drop home to)) ≡ written home (halves h c (part home (samples c) from)) to
-  unfolding Laid.part Standing.halves Runs.channel_averages Runs.channel_residuals
-  channel_put from to out lines size el es ll ls i j eo =
-      let n : end - home ≡ samples c = omega arith in
-      let by = samples_by h c in
-      let l = part_length home (samples c) from i in
-      let m = part_length home (samples c) to j in
-      let o : out ≡ halves h c (part home (samples c) from) =
-      rw (n, el, es) at eo
-      ∙ squeezed_fit h (lines_of h c) (size_of h c) (part home (samples c) from) (part home (samples c) to) (rw el at ll) (rw es at ls) (l ∙ by) (m ∙ by) in
-      rw n (put_back home (samples c) out to (ap length o ∙ halves_length h c (part home (samples c) from)) ∙ ap (λ (ys : List ℤ). written home ys to) o)
+  pub channel_put : (h : Bool) (from to out : List ℤ) (c : Channel) (lines size : ℕ) → c ≡ bare p → lines ≡ cond (not h) c.width c.height → size ≡ cond h c.width c.height
+      → sides_fit (bare p) ≡ true → p.home + area p ≤ length from → p.home + area p ≤ length to
+      → out ≡ squeezed_into h lines size (take (p.home + n - p.home) (drop p.home from)) (take (p.home + n - p.home) (drop p.home to))
+      → take p.home to ++ (out ++ drop (p.home + n - p.home) (drop p.home to)) ≡ written p.home (halves h (bare p) (part p.home (area p) from)) to
+  unfolding Laid.part Standing.halves Channel.samples Runs.channel_averages Runs.channel_residuals
+  channel_put h from to out c lines size ec el es fit i j eo =
+      let d = count_so p.home in
+      let by = samples_by h (bare p) in
+      let l = part_length p.home (area p) from i in
+      let m = part_length p.home (area p) to j in
+      let f = fit_lines h (bare p) fit in
+      let u : lines ≡ lines_of h (bare p) = rw ec at el ∙ across h (bare p) in
+      let v : size ≡ size_of h (bare p) = rw ec at es in
+      let o : out ≡ halves h (bare p) (part p.home (area p) from) =
+      rw (d, u, v) at eo
+      ∙ squeezed_fit h (lines_of h (bare p)) (size_of h (bare p)) (part p.home (area p) from) (part p.home (area p) to) f.0 f.1 (l ∙ by) (m ∙ by) in
+      rw d (put_back p.home (area p) out to (ap length o ∙ halves_length h p (part p.home (area p) from)) ∙ ap (λ (ys : List ℤ). written p.home ys to) o)

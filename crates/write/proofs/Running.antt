@@ -1,12 +1,10 @@
 -- Accepted steps one after the other on the places of a list (`squeezed` of crate runs): before each step the list that is reached, what its places
 -- hold and the steps that are left give the whole run. Assumes nothing.
 use mathlib.Core.Path.{◌≡◌, sym, ap, ◌∙◌}
-use mathlib.Core.Bool.{Bool, true, false, cond}
 use mathlib.Core.List.{List, [], ◌∷◌}
 use Prim.Native.Nat.{ℕ, suc, ◌+◌, ◌-◌, ◌<◌, ◌≤◌, min}
 use native.Mathlib.Omega.{arith}
 use borrow.Author.Tests.{leb-true}
-use lib.Dec.{eqb}
 use lib.IntN.{ℤ}
 use lib.ListN.{length, get_or}
 use Rattle.numbers.specs.Numbers.{max_samples}
@@ -23,7 +21,10 @@ use Rattle.list.proofs.Maps.{map_length, map_at}
 use Rattle.list.proofs.Acceptance.{step_accepted}
 use Rattle.list.proofs.Kept.{stepped_allowed}
 use Rattle.list.proofs.Totals.{stepped_total}
-use Rattle.places.specs.Places.{Place, area, unmade, odd, step_places, place_of}
+use Rattle.places.specs.declared.Slot.{Slot}
+use Rattle.places.specs.declared.Slot.TheVariants.{Unmade, Odd, Even}
+use Rattle.places.specs.declared.Place.{Place}
+use Rattle.places.specs.Places.{area, step_places, place_of}
 use Rattle.places.specs.Laid.{Laid, Sided, part}
 use Rattle.places.proofs.Parts.{part_length}
 use Rattle.places.proofs.Laid.{laid_step}
@@ -38,7 +39,7 @@ use Rattle.runs.specs.Runs as Runs
 use Rattle.runs.specs.Runs.{step_forward, squeezed}
 use Rattle.runs.proofs.Shapes.{Shaped, parts_joined}
 use Rattle.write.specs.Standing as Standing
-use Rattle.write.specs.Standing.{Alike, lying, held, Squeezed}
+use Rattle.write.specs.Standing.{Alike, slice_of, lying, held, Squeezed}
 use Rattle.write.proofs.Stepping.{held_step_lem}
 
 -- ---- what the places hold has the shape of the list
@@ -51,13 +52,13 @@ shaped_by (c ∷ cs) (x ∷ hs) l e = (e 0 (omega arith), shaped_by cs hs (omega
 
 module _ (picture odds evens : List ℤ) (alike : Alike picture odds evens) where
   lying_length : (p : Place) → p.home + area p ≤ length picture → length (lying picture odds evens p) ≡ area p
-  unfolding Standing.lying Standing.slice_of
-  lying_length p i = go (eqb p.slot unmade) (eqb p.slot odd)
+  unfolding Standing.lying
+  lying_length p i = go p.slot
     where
-      go : (u o : Bool) → length (part p.home (area p) (cond u picture (cond o odds evens))) ≡ area p
-      go true o = part_length p.home (area p) picture i
-      go false true = let l = alike.odds_length in part_length p.home (area p) odds (omega arith)
-      go false false = let l = alike.evens_length in part_length p.home (area p) evens (omega arith)
+      go : (s : Slot) → length (part p.home (area p) (slice_of picture odds evens s)) ≡ area p
+      go Unmade = part_length p.home (area p) picture i
+      go Odd = let l = alike.odds_length in part_length p.home (area p) odds (omega arith)
+      go Even = let l = alike.evens_length in part_length p.home (area p) evens (omega arith)
 
   held_shaped : (cs : List Channel) (ps : List Place) → Sided cs ps → Laid (length picture) ps → Shaped cs (held picture odds evens ps)
   held_shaped cs ps s w =

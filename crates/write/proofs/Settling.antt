@@ -1,17 +1,19 @@
 -- Each channel put at its start in the pyramid, first to last (`settled` of specs/Settled.antt): what is done stands in front, and behind it the
 -- pyramid is as it was, so that a channel that stands at its start already is still there. Assumes nothing.
 use mathlib.Core.Path.{◌≡◌, refl, sym, ap, ◌∙◌}
-use mathlib.Core.Bool.{Bool, true, false, cond, ◌&&◌, ◌||◌, not}
+use mathlib.Core.Bool.{Bool, true, false, cond, ◌&&◌}
 use mathlib.Core.List.{List, ◌++◌, append_assoc, append-nil}
 use Prim.Native.Nat.{ℕ, ◌+◌, ◌<◌, ◌≤◌}
 use native.Mathlib.Omega.{arith}
-use borrow.Author.Tests.{ne_eqb}
+use borrow.Author.Tests.{eq-eqb, ne_eqb}
 use lib.Dec.{eqb}
 use lib.IntN.{ℤ}
 use lib.ListN.{length, get_or, take, drop, length-append, drop_of_length-le, take-append-drop}
 use lib.Seq.{take_at, drop_at, drop-drop}
 use Rattle.list.specs.Tables.{table}
-use Rattle.places.specs.Places.{Place, area, unmade, odd, sum}
+use Rattle.places.specs.declared.Slot.TheVariants.{Unmade, Odd, Even}
+use Rattle.places.specs.declared.Place.{Place}
+use Rattle.places.specs.Places.{area, is_unmade, is_odd, sum}
 use Rattle.places.specs.Laid as Laid
 use Rattle.places.specs.Laid.{part, written}
 use Rattle.places.proofs.Parts.{part_length}
@@ -31,37 +33,29 @@ module _ (picture work : List ℤ) (start : ℕ) (p : Place) where
   settling_length : (pyramid : List ℤ) → p.home + area p ≤ length picture → p.home + area p ≤ length work → start + area p ≤ length pyramid
       → length (settling picture pyramid work start p) ≡ area p
   unfolding Settled.settling
-  settling_length pyramid a b c = go (eqb p.slot unmade) (eqb p.slot odd && eqb p.home start)
+  settling_length pyramid a b c = go (is_unmade p.slot) (is_odd p.slot && eqb p.home start)
     where
       go : (u s : Bool) → length (cond u (part p.home (area p) picture) (cond s (part start (area p) pyramid) (part p.home (area p) work))) ≡ area p
       go true s = part_length p.home (area p) picture a
       go false true = part_length start (area p) pyramid c
       go false false = part_length p.home (area p) work b
 
-  -- the three ways
-  pub from_picture : (pyramid : List ℤ) → p.slot ≡ unmade → settling picture pyramid work start p ≡ part p.home (area p) picture
+  -- the ways, by the slot
+  pub from_picture : (pyramid : List ℤ) → p.slot ≡ Unmade → settling picture pyramid work start p ≡ part p.home (area p) picture
   unfolding Settled.settling
   from_picture pyramid e = rw e
 
-  pub from_work : (pyramid : List ℤ) → (p.slot ≡ unmade → ⊥) → not (eqb p.slot odd) || not (eqb p.home start) ≡ true
-      → settling picture pyramid work start p ≡ part p.home (area p) work
+  pub in_pyramid : (pyramid : List ℤ) → p.slot ≡ Odd → p.home ≡ start → settling picture pyramid work start p ≡ part start (area p) pyramid
   unfolding Settled.settling
-  from_work pyramid u t = rw (ne_eqb p.slot unmade u) (go (eqb p.slot odd) (eqb p.home start) t)
-    where
-      go : (o s : Bool) → not o || not s ≡ true → cond (o && s) (part start (area p) pyramid) (part p.home (area p) work) ≡ part p.home (area p) work
-      go true true e = cc
-      go true false e = refl
-      go false s e = refl
+  in_pyramid pyramid e h = rw (e, eq-eqb p.home start h)
 
-  pub in_pyramid : (pyramid : List ℤ) → (p.slot ≡ unmade → ⊥) → not (eqb p.slot odd) || not (eqb p.home start) ≡ false
-      → settling picture pyramid work start p ≡ part start (area p) pyramid
+  pub from_work : (pyramid : List ℤ) → p.slot ≡ Odd → (p.home ≡ start → ⊥) → settling picture pyramid work start p ≡ part p.home (area p) work
   unfolding Settled.settling
-  in_pyramid pyramid u t = rw (ne_eqb p.slot unmade u) (go (eqb p.slot odd) (eqb p.home start) t)
-    where
-      go : (o s : Bool) → not o || not s ≡ false → cond (o && s) (part start (area p) pyramid) (part p.home (area p) work) ≡ part start (area p) pyramid
-      go true true e = refl
-      go true false e = cc
-      go false s e = cc
+  from_work pyramid e h = rw (e, ne_eqb p.home start h)
+
+  pub from_even : (pyramid : List ℤ) → p.slot ≡ Even → settling picture pyramid work start p ≡ part p.home (area p) work
+  unfolding Settled.settling
+  from_even pyramid e = rw e
 
   settling_by : (pyramid pyramid' : List ℤ) → part start (area p) pyramid' ≡ part start (area p) pyramid
       → settling picture pyramid' work start p ≡ settling picture pyramid work start p

@@ -10,7 +10,8 @@ use borrow.Author.Tests.{ltb-true, ltb-false}
 use lib.Dec.{ltb}
 use lib.IntN.{ℤ}
 use lib.ListN.{length}
-use Rattle.places.specs.Places.{Place, bare}
+use Rattle.places.specs.declared.Place.{Place}
+use Rattle.places.specs.Places.{bare}
 use Rattle.write.specs.Standing.{lying, halves, other, Turned, Ranged, Squeezed}
 
 module _ (h : Bool) (at : ℕ → Place) (from to : ℕ) (picture odds evens : List ℤ) where

@@ -8,7 +8,8 @@ use native.Mathlib.Omega.{arith}
 use native.Mathlib.Nat.{mul_comm}
 use lib.IntN.{ℤ}
 use lib.ListN.{length, take, drop, length-take, length-drop}
-use lib.Seq.{get_or-take, get_or-drop, take_at, drop_at, drop-drop, take-take, take-nil}
+use lib.Seq.{get_or-take, get_or-drop, take_at, drop_at, drop-drop, take-take}
+use Rattle.std.proofs.lemmas.List.{drop-take}
 use Rattle.numbers.specs.Numbers.{max_samples}
 use Rattle.channel.specs.declared.Channel.{Channel}
 use Rattle.list.specs.declared.Step.{Step}
@@ -17,7 +18,8 @@ use Rattle.list.specs.Lists.{range}
 use Rattle.list.specs.Questions.{channel_of}
 use Rattle.line.specs.Forward.{average_count}
 use Rattle.places.specs.Places as Places
-use Rattle.places.specs.Places.{Place, area, average_place, residual_place, step_places, place_of, bare}
+use Rattle.places.specs.declared.Place.{Place}
+use Rattle.places.specs.Places.{area, average_place, residual_place, step_places, place_of, bare}
 use Rattle.places.specs.Laid.{Laid, Sided, part}
 use Rattle.places.proofs.Laid.{average_area, residual_home, laid_apart}
 use Rattle.runs.specs.Runs as Runs
@@ -31,14 +33,9 @@ front_part : (at n m : ℕ) (xs : List ℤ) → part at n xs ≡ take n (part at
 unfolding part
 front_part at n m xs = sym (take-take n (n + m) (drop at xs) (omega arith))
 
-drop_take : (n m : ℕ) (xs : List ℤ) → drop n (take (n + m) xs) ≡ take m (drop n xs)
-drop_take zero m xs = let e : 0 + m ≡ m = omega arith in rw e
-drop_take (suc n) m [] = let e : suc n + m ≡ suc (n + m) = omega arith in rw e (sym (take-nil m))
-drop_take (suc n) m (x ∷ xs) = let e : suc n + m ≡ suc (n + m) = omega arith in rw e (drop_take n m xs)
-
 back_part : (at n m : ℕ) (xs : List ℤ) → part (at + n) m xs ≡ drop n (part at (n + m) xs)
 unfolding part
-back_part at n m xs = rw (← drop-drop n at xs) (sym (drop_take n m (drop at xs)))
+back_part at n m xs = rw (← drop-drop n at xs) (sym (drop-take n m (drop at xs)))
 
 -- ---- lists under a function
 module _ {ℓ κ} {A : Type ℓ} {B : Type κ} (f : A → B) where

@@ -2,7 +2,8 @@
 -- Definitions only.
 use Rattle.std.specs.Prelude.{◌≡◌, cond, ◌&&◌, List, ℕ, ◌+◌, ◌<◌, ◌≤◌, eqb, ℤ, length, get_or}
 use Rattle.list.specs.Tables.{table}
-use Rattle.places.specs.Places.{Place, area, unmade, odd, sum}
+use Rattle.places.specs.declared.Place.{Place}
+use Rattle.places.specs.Places.{area, is_unmade, is_odd, sum}
 use Rattle.places.specs.Laid.{Apart, part}
 use Rattle.runs.specs.Parts.{joined}
 use Rattle.write.specs.Standing.{lying}
@@ -10,8 +11,8 @@ use Rattle.write.specs.Standing.{lying}
 -- what is to stand at the start of a place: from the picture, as it stands already, or from the work slice
 unfoldable pub settling : List ℤ → List ℤ → List ℤ → ℕ → Place → List ℤ
 settling picture pyramid work start p =
-    cond (eqb p.slot unmade) (part p.home (area p) picture)
-    (cond (eqb p.slot odd && eqb p.home start) (part start (area p) pyramid) (part p.home (area p) work))
+    cond (is_unmade p.slot) (part p.home (area p) picture)
+    (cond (is_odd p.slot && eqb p.home start) (part start (area p) pyramid) (part p.home (area p) work))
 
 -- the work slice before and after it took the channel at p, if the pyramid has it elsewhere than at its start
 pub record Moved (start : ℕ) (p : Place) (pyramid work work' : List ℤ) : Type 0 where

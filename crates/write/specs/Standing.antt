@@ -1,23 +1,21 @@
--- Where the samples of a list's channels stand while the writer takes its steps: each channel at its home (crate places), in the picture, in the odd
+-- Where the samples of a list's channels stand while the writer takes its steps: each channel at its place (crate places), in the picture, in the odd
 -- slice or in the even one; and what the functions for one channel, a step and all steps ask and leave. Definitions only.
-use Rattle.std.specs.Prelude.{◌≡◌, Bool, true, cond, List, ◌++◌, ℕ, ◌+◌, ◌<◌, ◌≤◌, eqb, ℤ, length}
+use Rattle.std.specs.Prelude.{◌≡◌, Bool, true, List, ◌++◌, ℕ, ◌+◌, ◌<◌, ◌≤◌, ℤ, length}
 use Rattle.numbers.specs.Numbers.{max_samples}
 use Rattle.channel.specs.declared.Channel.{Channel}
 use Rattle.channel.specs.Channel.{sides_fit}
 use Rattle.list.specs.declared.ChannelList.{ChannelList}
 use Rattle.list.specs.Tables.{map}
-use Rattle.list.specs.Lists.{max_channels, max_steps, channels, total}
-use Rattle.list.specs.Questions.{judge_list}
-use Rattle.places.specs.Places.{Place, bare, area, unmade, odd, turned, sum}
-use Rattle.places.specs.Laid.{Apart, Laid, Sided, part}
+use Rattle.list.specs.Lists.{max_channels, channels}
+use Rattle.places.specs.declared.Slot.{Slot}
+use Rattle.places.specs.declared.Slot.TheVariants.{Unmade, Odd, Even}
+use Rattle.places.specs.declared.Place.{Place}
+use Rattle.places.specs.Places.{bare, area, turned, sum}
+use Rattle.places.specs.Laid.{Apart, Laid, part}
 use Rattle.plan.specs.declared.Steps.{Steps}
 use Rattle.plan.specs.Steps.{steps}
-use Rattle.plan.specs.Plans.{judge_steps}
 use Rattle.runs.specs.Parts.{joined}
 use Rattle.runs.specs.Runs.{channel_averages, channel_residuals, squeezed}
-
-abbrev pub placed : ℕ → ℕ → ℕ → ℕ → Place
-placed width height home slot = record { width = width; height = height; home = home; slot = slot }
 
 -- the odd and the even slice are as long as the picture
 pub record Alike (picture odds evens : List ℤ) : Type 0 where
@@ -26,8 +24,10 @@ pub record Alike (picture odds evens : List ℤ) : Type 0 where
 
 -- ---- the samples at a place
 -- the slice that a slot tells, and what it holds at the place
-unfoldable pub slice_of : List ℤ → List ℤ → List ℤ → ℕ → List ℤ
-slice_of picture odds evens slot = cond (eqb slot unmade) picture (cond (eqb slot odd) odds evens)
+abbrev pub slice_of : List ℤ → List ℤ → List ℤ → Slot → List ℤ
+slice_of picture odds evens Unmade = picture
+slice_of picture odds evens Odd = odds
+slice_of picture odds evens Even = evens
 
 unfoldable pub lying : List ℤ → List ℤ → List ℤ → Place → List ℤ
 lying picture odds evens p = part p.home (area p) (slice_of picture odds evens p.slot)
@@ -41,7 +41,7 @@ unfoldable pub halves : Bool → Channel → List ℤ → List ℤ
 halves horizontal c xs = channel_averages horizontal c xs ++ channel_residuals horizontal c xs
 
 abbrev pub other : Place → Place
-other p = placed p.width p.height p.home (turned p.slot)
+other p = record { width = p.width; height = p.height; home = p.home; slot = turned p.slot }
 
 -- the odd and the even slice before and after the channel at p was squeezed: what lies apart from it stays
 pub record Turned (horizontal : Bool) (p : Place) (picture odds evens odds' evens' : List ℤ) : Type 0 where
@@ -67,17 +67,6 @@ pub record Squeezed (horizontal : Bool) (at : ℕ → Place) (from to : ℕ) (pi
       → lying picture odds' evens' q ≡ lying picture odds evens q
 
 -- ---- all steps
--- a list's channels at their places, before the steps of a plan that is accepted
-pub record Begun (l : ChannelList) (s : Steps) (ps : List Place) (picture odds evens : List ℤ) : Type 0 where
-  pub accepted : judge_list l ≡ 0
-  pub few : s.count ≤ max_steps
-  pub judged : judge_steps (steps s) (channels l) ≡ 0
-  pub long : length picture ≡ total (channels l)
-  pub sided : Sided (channels l) ps
-  pub laid : Laid (length picture) ps
-  pub alike : Alike picture odds evens
-  pub whole : joined (held picture odds evens ps) ≡ picture
-
 -- the places of so many channels lie apart in a slice of n samples, and fill it
 pub record Full (count : ℕ) (ps : List Place) (n : ℕ) : Type 0 where
   pub few : count ≤ max_channels

@@ -7,22 +7,15 @@ use lib.IntN.{pos}
 use lib.ListN.{get_or}
 use Rattle.arith32.proofs.Whole.{back32}
 use Rattle.pair.specs.Pair.{first, second}
-use Rattle.block.proofs.Lanes.{filled_none, filled_more, filled_all}
+use Rattle.block.proofs.Lanes.{filled_more, filled_all}
 use Rattle.block.proofs.unsqueeze_block.Goals as goal
-
-pub loop-i-init : goal.loop-i-init
-loop-i-init c = (
-  filled_none first c.args.avg c.args.res c.args.next c.args.prev c.args.avg 8 (search rules),
-  filled_none second c.args.avg c.args.res c.args.next c.args.prev c.args.prev 8 (search rules),
-  omega arith,
-)
 
 pub loop-i-preserved : goal.loop-i-preserved
 loop-i-preserved c =
     let a = c.args in
     let i = c.loop-i.i in
     let l = c.loop-i-test.true in
-    let pair = c.unsqueeze_lane-p in
+    let pair = c.unsqueeze-first in
     let firsts = c.loop-i.invariant.0 in
     let seconds = c.loop-i.invariant.1 in
     let b1 = back32 (get_or c.loop-i.firsts i (pos 0)) (search rules) ∙ firsts.rest i (omega arith) in

@@ -6,7 +6,7 @@ use native.Mathlib.Omega.{arith}
 use lib.ListN.{length, take, drop}
 use Rattle.columns.specs.Rows.{row_after, Columns}
 use Rattle.columns.proofs.OuterRows.{part_rest}
-use Rattle.columns.proofs.LastRows.{last_row_inside, residuals_inside, tail_room, after_room, last_asked, ended_even, ended_odd}
+use Rattle.columns.proofs.LastRows.{last_row_inside, residuals_inside, after_room, last_asked, ended_even, ended_odd}
 use Rattle.columns.proofs.last_rows.Goals as goal
 use Rattle.columns.proofs.last_rows.Lts as Lts
 use Rattle.columns.proofs.last_rows.Reads as reads
@@ -35,15 +35,6 @@ made c =
     let z : x + a.w - x ≡ a.w = omega arith in
     rw (z, c.row_after.ensures) at c.row_pair.ensures
 
-pub overflow_sub-a : goal.overflow_sub-a
-overflow_sub-a c = last_row_inside c.requires.0 c.requires.1
-
-pub slice_bounds-row_pair-end : goal.slice_bounds-row_pair-end
-slice_bounds-row_pair-end c = omega (arith, last_row_inside c.requires.0 c.requires.1, residuals_inside c.requires.0)
-
-pub slice_bounds-row_pair-end-2 : goal.slice_bounds-row_pair-end-2
-slice_bounds-row_pair-end-2 c = omega (arith, last_row_inside c.requires.0 c.requires.1)
-
 pub row_after-requires : goal.row_after-requires
 row_after-requires c =
     let a = c.args in
@@ -59,17 +50,6 @@ row_pair-requires c =
     let z : x + a.w - x ≡ a.w = omega arith in
     rw (z, c.row_after.ensures)
     (last_asked c.requires.0 (a.n - 1) x (counted a.n c.requires.1) p c.requires.3)
-
-pub slice_bounds-copy_row-count : goal.slice_bounds-copy_row-count
-slice_bounds-copy_row-count c = omega (arith, residuals_inside c.requires.0)
-
-pub slice_bounds-copy_row-start : goal.slice_bounds-copy_row-start
-slice_bounds-copy_row-start c = omega (arith, residuals_inside c.requires.0)
-
-pub copy_row-requires : goal.copy_row-requires
-copy_row-requires c =
-    let a = c.args in
-    rw (part_rest a.avg.now (length a.res.now)) (tail_room c.requires.0 c.if-n-m.true ((made c.before.before.before).long ∙ c.requires.2))
 
 pub returns-then-n-m : goal.returns-then-n-m
 returns-then-n-m c prev =

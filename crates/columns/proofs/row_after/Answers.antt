@@ -6,9 +6,6 @@ use native.Mathlib.Omega.{arith}
 use Rattle.columns.proofs.OuterRows.{after_average, after_own, after_outer}
 use Rattle.columns.proofs.row_after.Goals as goal
 
-pub slice_bounds-result-end : goal.slice_bounds-result-end
-slice_bounds-result-end c = omega (arith, c.requires.1 c.if-e-avg.true)
-
 pub returns-then-e-avg : goal.returns-then-e-avg
 returns-then-e-avg c =
     let a = c.args in

@@ -3,11 +3,6 @@ use native.Mathlib.Omega.{arith}
 use Rattle.columns.proofs.TwoRows.{columns_join}
 use Rattle.columns.proofs.row_pair.Goals as goal
 
-pub columns_singly-requires : goal.columns_singly-requires
-columns_singly-requires c =
-    let e = c.columns_by_eight-x.ensures in
-    (e.0, c.requires.0, c.requires.1, rw e.2.long c.requires.2)
-
 pub returns : goal.returns
 returns c =
     let by-eight = c.columns_by_eight-x.ensures in

@@ -8,29 +8,6 @@ use lib.ListN.{length}
 use Rattle.eight_rows.proofs.Blocks.{four_ordinary}
 use Rattle.eight_rows.proofs.four_pairs.Goals as goal
 
-pub overflow_add-q-3 : goal.overflow_add-q-3
-overflow_add-q-3 c = omega (arith, c.requires.6)
-
-pub load_lanes-requires-5 : goal.load_lanes-requires-5
-load_lanes-requires-5 c = let pre = c.requires in omega (arith, pre.5, pre.6)
-
-pub overflow_add-p-5 : goal.overflow_add-p-5
-overflow_add-p-5 c = omega (arith, c.requires.3, c.ranges.m.fits)
-
-pub load_lanes-requires-6 : goal.load_lanes-requires-6
-load_lanes-requires-6 c = let pre = c.requires in omega (arith, pre.1, pre.3)
-
-pub overflow_add-p-6 : goal.overflow_add-p-6
-overflow_add-p-6 c = omega (arith, c.requires.2, c.requires.3, c.requires.4, c.well_formed)
-
-pub overflow_add-p-7 : goal.overflow_add-p-7
-overflow_add-p-7 c = omega (arith, c.requires.2, c.requires.3, c.requires.4, c.well_formed)
-
-pub store_four-requires-2 : goal.store_four-requires-2
-store_four-requires-2 c =
-    let pre = c.requires in
-    (omega (arith, pre.2, pre.3, pre.4, c.store_four.auto.s), omega (arith, pre.3, pre.4))
-
 pub returns : goal.returns
 returns c =
     λ res lanes.

@@ -1,6 +1,6 @@
 -- `last_next` meets its contract: the rows' tails, else the outer line, else the averages themselves. Assumes nothing.
 use mathlib.Core.List.{[]}
-use borrow.Author.Tests.{lt-ltb, le-ltb}
+use borrow.Author.Tests.{lt-ltb}
 use Rattle.eight_rows.proofs.Blocks.{own_lane}
 use Rattle.eight_rows.proofs.last_next.Goals as goal
 
@@ -9,6 +9,3 @@ returns-then-n-m c =
     λ k hk.
     let a = c.args in
     rw (c.load_lanes.ensures, lt-ltb a.n a.m c.if-n-m.true) (own_lane a.m 0 a.avg.now [] k a.n hk)
-
-pub returns-else-n-m : goal.returns-else-n-m
-returns-else-n-m c = λ k hk. let a = c.args in rw (le-ltb a.n a.m c.if-n-m.false) (c.outer_lanes.ensures k hk)

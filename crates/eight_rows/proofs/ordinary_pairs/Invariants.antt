@@ -1,14 +1,14 @@
--- `ordinary_pairs` meets its contract. The loop's invariant: the ordinary pairs up to i are made (`Ordinary` of the crate line). A turn adds eight, and
+-- `ordinary_pairs` meets its contract. The loop's invariant: the ordinary pairs up to 8 * k are made (`Ordinary` of the crate line). A turn adds eight, and
 -- those that are left come after it. The measure is the pairs that are left. Assumes nothing.
 use mathlib.Core.Bool.{true}
-use Prim.Native.Nat.{◌-◌, ◌≤◌}
+use Prim.Native.Nat.{◌-◌, ◌*◌}
 use Rattle.line.specs.Pairs.{lines_of, Ordinary}
 use Rattle.eight_rows.specs.Lanes.{lane}
 use Rattle.eight_rows.proofs.ordinary_pairs.Given as goal
 
-abbrev pub invariant-loop-i : goal.invariant-loop-i
-invariant-loop-i l =
-    Ordinary (lines_of true 8 l.m l.n l.avg l.res) (lane l.initial.before) (lane l.before) l.initial.out l.out 0 l.i × (l.i ≤ l.to)
+abbrev pub invariant-loop-k : goal.invariant-loop-k
+invariant-loop-k l =
+    Ordinary (lines_of true 8 l.m l.n l.avg l.res) (lane l.initial.before) (lane l.before) l.initial.out l.out 0 (8 * l.k)
 
-abbrev pub decreases-loop-i : goal.decreases-loop-i
-decreases-loop-i l = l.to - l.i
+abbrev pub decreases-loop-k : goal.decreases-loop-k
+decreases-loop-k l = l.k-end - l.k

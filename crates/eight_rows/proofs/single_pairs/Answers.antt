@@ -3,19 +3,12 @@
 use mathlib.Core.Path.{◌≡◌, ◌∙◌}
 use Prim.Native.Nat.{◌+◌, ◌-◌, ◌<◌}
 use native.Mathlib.Omega.{arith}
-use borrow.Author.Rules.{rules}
 use lib.ListN.{length}
 use Rattle.pair.specs.Pair.{second}
-use Rattle.line.proofs.Pairs.{none, join}
+use Rattle.line.proofs.Pairs.{join}
 use Rattle.eight_rows.proofs.Strides.{lanes_length}
 use Rattle.eight_rows.proofs.Blocks.{block_length, block_ordinary}
 use Rattle.eight_rows.proofs.single_pairs.Goals as goal
-
-pub loop-i-init : goal.loop-i-init
-loop-i-init c =
-    let a = c.args in
-    let z : a.from - a.from ≡ 0 = omega arith in
-    (rw z none, search rules, omega arith, c.requires.1)
 
 pub loop-i-preserved : goal.loop-i-preserved
 loop-i-preserved c =
@@ -40,9 +33,3 @@ loop-i-preserved c =
       omega arith,
       omega arith,
     )
-
-pub returns : goal.returns
-returns c =
-    let a = c.args in
-    let e : c.loop-i.i ≡ a.to = omega arith in
-    rw e at c.loop-i.invariant.0

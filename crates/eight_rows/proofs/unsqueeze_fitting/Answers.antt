@@ -2,7 +2,6 @@
 use mathlib.Core.Path.{◌≡◌, ◌∙◌}
 use Prim.Native.Nat.{◌+◌, ◌*◌}
 use native.Mathlib.Omega.{arith}
-use Rattle.line.proofs.Into.{without_previous}
 use Rattle.line.proofs.Pairs.{put_together, copied}
 use Rattle.eight_rows.proofs.Strides.{lanes_at_lem, lanes_put_length, lanes_put_on}
 use Rattle.eight_rows.proofs.Blocks.{block_before}
@@ -21,10 +20,6 @@ returns-then-n-eq0 c =
     rw (z, p)
     (lanes_put_on a.out.now 0 a.m own.result k c.requires.1 (omega arith) hk
     ∙ rw own.ensures (lanes_at_lem a.avg.now 0 a.m k hk))))
-
-pub last_lanes-requires : goal.last_lanes-requires
-last_lanes-requires c =
-    (without_previous c.requires.0, omega arith, c.ordinary_pairs-before.ensures.long ∙ c.requires.2)
 
 pub returns : goal.returns
 returns c =

@@ -14,7 +14,7 @@ returns-then-out-ne2 c = kept _ _ c.args.out.now c.if-out-ne2.true
 pub returns : goal.returns
 unfolding unsqueezed
 returns c =
-    let p = c.unsqueeze-p in
+    let p = c.unsqueeze-first in
     let a = to_z-of_z c.ranges.avg in
     let r = to_z-of_z c.ranges.res in
     let n = to_z-of_z c.ranges.next in

@@ -1,49 +1,55 @@
--- `run` meets its contract: the two ends (proofs/Ends.antt) of the steps taken back. Assumes nothing.
-use mathlib.Core.Path.{◌≡◌, refl, sym, ap, subst, ◌∙◌}
+-- `run` meets its contract: the two ends (proofs/Ends.antt) of the steps taken back, each at the places before it (proofs/StepsBack.antt). Assumes
+-- nothing.
+use mathlib.Core.Path.{◌≡◌}
+use Prim.Native.Nat.{◌+◌, ◌-◌}
 use native.Mathlib.Omega.{arith}
-use lib.ListN.{length}
-use Rattle.places.specs.Places.{places_in}
-use Rattle.rebuild.specs.Run.{places_all, first_steps, places_at, StepsFit}
-use Rattle.rebuild.proofs.Arrays.{places_first, laid_length}
 use Rattle.rebuild.proofs.Firsts.{steps_fit}
+use Rattle.rebuild.proofs.StepsBack.{fits_here, back_here}
 use Rattle.rebuild.proofs.Ends.{back_none, settle_fits, settled_is}
 use Rattle.rebuild.proofs.run.Goals as goal
-use Rattle.rebuild.proofs.run.Lts as Lts
-use Rattle.rebuild.proofs.run.Reads as reads
-use Rattle.rebuild.proofs.run.Tie as tie
 
-abbrev After-place_steps-count : Type 0
-After-place_steps-count = Lts.After-place_steps tie.the-claims reads.Pre reads.Post
-
-pub place_steps-count-requires : goal.place_steps-count-requires
-place_steps-count-requires c =
+pub take_steps-requires : goal.take_steps-requires
+take_steps-requires c =
     let a = c.args in
-    subst (StepsFit a.steps.count a.steps) (sym (places_first a.list c.requires.0.counted _ _ _ c.lay.ensures refl))
-    (steps_fit a.list a.steps a.pyramid.now c.requires.0 a.steps.count (omega arith))
+    steps_fit a.list.now a.steps.now a.pyramid.now c.requires.0 a.steps.now.count (omega arith)
 
--- the arrays have the places of the list that the steps leave
-placed : (c : After-place_steps-count) → let l = c.place_steps-count.new in let a = c.args in
-    places_in c.place_steps-count.result l.widths l.heights l.homes l.slots ≡ places_at a.list a.steps a.steps.count
-placed c =
-    let a = c.args in
-    c.place_steps-count.ensures ∙ ap (places_all (first_steps a.steps a.steps.count)) (places_first a.list c.requires.0.counted _ _ _ c.lay.ensures refl)
-
-pub slice_bounds-steps_back-end : goal.slice_bounds-steps_back-end
-slice_bounds-steps_back-end c = sym (ap length c.lay-2.ensures ∙ laid_length _ _ _ _ refl)
-
-pub steps_back-requires : goal.steps_back-requires
-steps_back-requires c =
+pub loop-m-init : goal.loop-m-init
+loop-m-init c =
     let a = c.args in
     let p = c.requires in
-    let e = c.lay-2.ensures in
-    (p.0, back_none a.list a.steps a.pyramid.now p.0 _ _ _ _ _ _ _ (placed c.before.before.before.before.before.before.before.before) e a.picture.now a.work.now p.1 p.2 (ap length e ∙ laid_length _ _ _ _ refl) _ refl)
+    back_none a.list.now a.steps.now a.pyramid.now p.0 c.take_steps.new.places c.lay.new.self c.take_steps.ensures c.lay.ensures
+    a.picture.now a.work.now p.1 p.2
+
+pub take_steps-requires-in-loop-m : goal.take_steps-requires-in-loop-m
+take_steps-requires-in-loop-m c =
+    let a = c.args in
+    steps_fit a.list.now a.steps.now a.pyramid.now c.requires.0 (c.loop-m.m - 1) (omega arith)
+
+pub take_back-requires : goal.take_back-requires
+take_back-requires c =
+    let a = c.args in
+    let w = c.loop-m in
+    let z : w.m - 1 + 1 ≡ w.m = omega arith in
+    fits_here a.list.now a.steps.now a.pyramid.now c.requires.0 (w.m - 1) (omega arith) w.sources w.picture w.work (rw z w.invariant) _ c.step.ensures _
+    c.take_steps-in-loop-m.ensures
+
+pub loop-m-preserved : goal.loop-m-preserved
+loop-m-preserved c =
+    let a = c.args in
+    let w = c.loop-m in
+    let z : w.m - 1 + 1 ≡ w.m = omega arith in
+    let k = c.take_back.auto in
+    back_here a.list.now a.steps.now a.pyramid.now c.requires.0 (w.m - 1) (omega arith) w.sources w.picture w.work (rw z w.invariant) _ c.step.ensures _
+    c.take_steps-in-loop-m.ensures _ _ _ c.take_back.ensures k.picture k.work
 
 pub settle-requires : goal.settle-requires
 settle-requires c =
     let a = c.args in
-    settle_fits a.list a.steps a.pyramid.now c.requires.0 _ _ _ _ c.steps_back.ensures
+    let z : c.loop-m.m ≡ 0 = omega arith in
+    settle_fits a.list.now a.steps.now a.pyramid.now c.requires.0 _ _ _ (rw z at c.loop-m.invariant)
 
 pub returns : goal.returns
 returns c =
     let a = c.args in
-    settled_is a.list a.steps a.pyramid.now c.requires.0 _ _ _ _ c.steps_back.ensures _ c.settle.auto.picture c.settle.ensures
+    let z : c.loop-m.m ≡ 0 = omega arith in
+    settled_is a.list.now a.steps.now a.pyramid.now c.requires.0 _ _ _ (rw z at c.loop-m.invariant) _ c.settle.auto.picture c.settle.ensures

@@ -1,13 +1,13 @@
--- `rows_by_eight` meets its contract. The loop's invariant: the output of the rows up to y is written (`Down` of proofs/Bands.antt). A turn writes
+-- `rows_by_eight` meets its contract. The loop's invariant: the output of the rows up to 8 * k is written (`Down` of proofs/Bands.antt). A turn writes
 -- a strip of eight rows (proofs/Strips.antt). The measure is the rows that are left. Assumes nothing.
 use mathlib.Core.Bool.{true}
-use Prim.Native.Nat.{◌+◌, ◌-◌}
+use Prim.Native.Nat.{◌+◌, ◌-◌, ◌*◌}
 use Rattle.line.specs.Uncut.{squeeze, uncut}
 use Rattle.rows.proofs.Bands.{Down}
 use Rattle.rows.proofs.rows_by_eight.Given as goal
 
-abbrev pub invariant-loop-y : goal.invariant-loop-y
-invariant-loop-y l = Down l.lines (l.m + l.n) (uncut (squeeze true l.lines l.m l.n l.avg l.res l.next l.prev)) l.initial.out l.out l.y
+abbrev pub invariant-loop-k : goal.invariant-loop-k
+invariant-loop-k l = Down l.lines (l.m + l.n) (uncut (squeeze true l.lines l.m l.n l.avg l.res l.next l.prev)) l.initial.out l.out (8 * l.k)
 
-abbrev pub decreases-loop-y : goal.decreases-loop-y
-decreases-loop-y l = l.lines - l.y
+abbrev pub decreases-loop-k : goal.decreases-loop-k
+decreases-loop-k l = l.k-end - l.k

@@ -1,13 +1,7 @@
--- `decode` meets its contract. The loop's invariant: the first i samples are in place. Assumes nothing.
-use mathlib.Core.Path.{◌≡◌}
-use Prim.Native.Nat.{◌-◌, ◌≤◌}
-use lib.ListN.{length}
+-- `decode` meets its contract: the first i samples are in place. Assumes nothing.
 use Rattle.samples.specs.Samples.{stored}
 use Rattle.samples.specs.Rooms.{Holds}
 use Rattle.samples.proofs.decode.Given as goal
 
 abbrev pub invariant-loop-i : goal.invariant-loop-i
-invariant-loop-i l = (l.i ≤ l.i-end) × (l.i-end ≡ length l.s) × (length l.s ≡ length l.initial.s) × Holds (stored l.bytes) l.s 0 l.i
-
-abbrev pub decreases-loop-i : goal.decreases-loop-i
-decreases-loop-i l = l.i-end - l.i
+invariant-loop-i l = Holds (stored l.bytes) l.s 0 l.i

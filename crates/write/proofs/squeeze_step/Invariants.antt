@@ -1,16 +1,14 @@
 -- `squeeze_step` meets its contract. The loop's invariant: the channels of the range before k are squeezed (`Squeezed` of specs/Standing.antt).
 -- Assumes nothing.
-use mathlib.Core.Path.{◌≡◌}
 use Prim.Native.Nat.{◌-◌, ◌≤◌}
-use lib.ListN.{length}
 use Rattle.places.specs.Places.{place_at}
 use Rattle.write.specs.Standing.{Squeezed}
 use Rattle.write.proofs.squeeze_step.Given as goal
 
 abbrev pub invariant-loop-k : goal.invariant-loop-k
 invariant-loop-k l =
-    (l.begin ≤ l.k) × (l.k ≤ l.end) × (length l.odd ≡ length l.initial.odd) × (length l.even ≡ length l.initial.even)
-    × Squeezed l.horizontal (place_at l.widths l.heights l.homes l.slots) l.begin l.k l.picture l.initial.odd l.initial.even l.odd l.even
+    (l.begin ≤ l.k) × (l.k ≤ l.end)
+    × Squeezed l.horizontal (place_at l.places) l.begin l.k l.picture l.initial.odd l.initial.even l.odd l.even
 
 abbrev pub decreases-loop-k : goal.decreases-loop-k
 decreases-loop-k l = l.end - l.k

@@ -1,89 +1,64 @@
 -- `write` meets its contract: each return has the answers to the questions before it (proofs/Answered.antt). Assumes nothing.
+use Rattle.std.proofs.Common.{rules, Err}
 use mathlib.Core.Path.{◌≡◌, sym, ◌∙◌}
-use mathlib.Core.Bool.{true}
-use lib.ListN.{length}
-use Prim.Native.Nat.{◌≤◌}
-use Rattle.list.specs.Lists.{max_steps, channels, total}
+use Rattle.numbers.specs.Numbers.{answer_of, number_of}
+use Rattle.numbers.proofs.Refusals.{number_some}
+use Rattle.list.specs.Lists.{channels}
+use Rattle.list.specs.Questions.{stepped_of}
 use Rattle.list.proofs.Asking.{no, yes}
-use Rattle.plan.specs.Steps.{steps}
-use Rattle.plan.specs.Plans.{judge_plan, meant}
+use Rattle.plan.specs.Plans.{planned_of}
 use Rattle.plan.proofs.Judged.{plan_answer, judged_list, meant_judged, meant_is}
 use Rattle.buffer.proofs.Overwritten.{zeros_same}
-use Rattle.write.specs.Standing.{Alike}
-use Rattle.write.specs.Write.{slices_fit}
-use Rattle.write.proofs.Answered.{fit_tested, fit_lengths, plan_refused, slices_refused, accepted}
+use Rattle.write.proofs.Answered.{fit_tested, fit_lengths, plan_refused, slices_refused, meant_found, accepted}
 use Rattle.write.proofs.write.Goals as goal
-use Rattle.write.proofs.write.Lts as Lts
-use Rattle.write.proofs.write.Reads as reads
-use Rattle.write.proofs.write.Tie as tie
 
-abbrev Start : Type 0
-Start = Lts.Start tie.the-claims reads.Pre reads.Post tie.handed_clauses
-
-abbrev Else-not-picture-total : Type 0
-Else-not-picture-total = Lts.Else2 tie.the-claims reads.Pre reads.Post tie.handed_clauses
-
-abbrev After-rewrite-answer : Type 0
-After-rewrite-answer = Lts.After-rewrite tie.the-claims reads.Pre reads.Post tie.handed_clauses
-
-abbrev After-meant_steps : Type 0
-After-meant_steps = Lts.After-meant_steps tie.the-claims reads.Pre reads.Post tie.handed_clauses
-
--- the answer to questions 3 to 11
-judged : (c : After-rewrite-answer) → let a = c.args in c.rewrite-answer.result.answer ≡ judge_plan a.version a.list a.steps
-judged c =
+pub returns-in_err-rewrite : goal.returns-in_err-rewrite
+returns-in_err-rewrite c =
     let a = c.args in
-    plan_answer a.version a.list a.steps c.rewrite-answer.result c.rewrite-answer.ensures
-
-plan : (c : Else-not-picture-total) → let a = c.args in judge_plan a.version a.list a.steps ≡ 0
-plan c = sym (judged c.before.before.before) ∙ c.if-answer-ne0.false
-
-slices : (c : Else-not-picture-total) → let a = c.args in slices_fit (channels a.list) a.picture.now a.pyramid.now a.work.now ≡ true
-slices c =
-    let a = c.args in
-    yes (fit_tested a.version a.list a.steps (plan c) c.total-total.result c.total-total.ensures a.picture.now a.pyramid.now a.work.now) c.if-not-picture-total.false
-
--- the slices and the steps of the run
-module _ (c : After-meant_steps) where
-  abbrev passed : Else-not-picture-total
-  passed = c.before
-
-  abbrev start : Start
-  start = passed.before.before.before.before
-
-  lengths : (length start.args.picture.now ≡ total (channels start.args.list)) × Alike start.args.picture.now start.args.pyramid.now start.args.work.now
-  lengths =
-      let l = fit_lengths (channels start.args.list) start.args.picture.now start.args.pyramid.now start.args.work.now (slices passed) in
-      (l.0, record { odds_length = l.1 ∙ sym l.0; evens_length = l.2 ∙ sym l.0 })
-
-  few : c.meant_steps.result.steps.count ≤ max_steps
-  few = c.meant_steps.ensures.room
-
-  taken : steps c.meant_steps.result.steps ≡ meant start.args.version (steps start.args.steps) (channels start.args.list)
-  taken = meant_is start.args.version start.args.list start.args.steps (plan passed) _ c.meant_steps.ensures.value few
-
-pub returns-then-answer-ne0 : goal.returns-then-answer-ne0
-returns-then-answer-ne0 c =
-    let a = c.args in
-    plan_refused a.version a.list a.steps a.picture.now a.pyramid.now a.work.now _ (judged c.before) c.if-answer-ne0.true
+    let f = a.form.now in
+    let r = c.in_err-rewrite.field-0.0 in
+    let e : answer_of {A = Unit {0}} c.from_residual.result ≡ number_of r = search rules in
+    rw e
+    (plan_refused f.version f.list f.steps a.picture.now a.pyramid.now a.work.now _
+    (plan_answer f.version f.list f.steps (stepped_of f.list (Err r)) c.in_err-rewrite.ensures) (number_some r))
 
 pub returns-then-not-picture-total : goal.returns-then-not-picture-total
 returns-then-not-picture-total c =
     let a = c.args in
-    let ok = sym (judged c.before.before.before) ∙ c.if-answer-ne0.false in
-    slices_refused a.version a.list a.steps a.picture.now a.pyramid.now a.work.now ok
-    (no (fit_tested a.version a.list a.steps ok c.total-total.result c.total-total.ensures a.picture.now a.pyramid.now a.work.now) c.if-not-picture-total.true)
+    let f = a.form.now in
+    let ok = sym (plan_answer f.version f.list f.steps _ c.in_ok-rewrite.ensures) in
+    slices_refused f.version f.list f.steps a.picture.now a.pyramid.now a.work.now ok
+    (no (fit_tested f.version f.list f.steps ok c.total-total.result c.total-total.ensures a.picture.now a.pyramid.now a.work.now) c.if-not-picture-total.true)
+
+-- the steps are found, since the form was judged
+pub returns-in_err-steps : goal.returns-in_err-steps
+returns-in_err-steps c =
+    let f = c.args.form.now in
+    let r = c.in_err-steps.field-0.0 in
+    let ok = sym (plan_answer f.version f.list f.steps _ c.in_ok-rewrite.ensures) in
+    absurd (number_some r (meant_found f.version f.list f.steps ok (planned_of (Err r)) c.in_err-steps.ensures.value))
 
 pub run-requires : goal.run-requires
 run-requires c =
-    let m = c.before.before.before in
-    let a = (start m).args in
-    let ok = plan (passed m) in
-    (judged_list a.version a.list a.steps ok, few m, rw (taken m) (meant_judged a.version a.list a.steps ok), (lengths m).0, (lengths m).1)
+    let a = c.args in
+    let f = a.form.now in
+    let m = c.in_ok-steps.ensures in
+    let ok = sym (plan_answer f.version f.list f.steps _ c.in_ok-rewrite.ensures) in
+    let fit = yes (fit_tested f.version f.list f.steps ok c.total-total.result c.total-total.ensures a.picture.now a.pyramid.now a.work.now) c.if-not-picture-total.false in
+    let l = fit_lengths (channels f.list) a.picture.now a.pyramid.now a.work.now fit in (
+      judged_list f.version f.list f.steps ok,
+      m.room,
+      rw (meant_is f.version f.list f.steps ok _ m.value m.room) (meant_judged f.version f.list f.steps ok),
+      l.0,
+      record { odds_length = l.1 ∙ sym l.0; evens_length = l.2 ∙ sym l.0 },
+    )
 
 pub returns : goal.returns
 returns c =
-    let m = c.before.before.before.before.before.before.before.before.before in
-    let a = (start m).args in
-    accepted a.version a.list a.steps a.picture.now a.pyramid.now a.work.now (plan (passed m)) (slices (passed m)) _ _
-    (rw (taken m) at c.run.ensures) (c.clear.ensures ∙ zeros_same _ a.work.now c.run.auto.work)
+    let a = c.args in
+    let f = a.form.now in
+    let m = c.in_ok-steps.ensures in
+    let ok = sym (plan_answer f.version f.list f.steps _ c.in_ok-rewrite.ensures) in
+    let fit = yes (fit_tested f.version f.list f.steps ok c.total-total.result c.total-total.ensures a.picture.now a.pyramid.now a.work.now) c.if-not-picture-total.false in
+    accepted f.version f.list f.steps a.picture.now a.pyramid.now a.work.now ok fit _ _
+    (rw (meant_is f.version f.list f.steps ok _ m.value m.room) at c.run.ensures) (c.clear.ensures ∙ zeros_same _ a.work.now c.run.auto.work)

@@ -6,21 +6,15 @@ use native.Mathlib.Omega.{arith}
 use borrow.Author.Rules.{rules}
 use mir.Facts.{to_z-of_z}
 use lib.IntN.{pos}
-use lib.ListN.{length, get_or, length-set}
+use lib.ListN.{length, get_or}
 use Rattle.arith32.proofs.Whole.{back32}
 use Rattle.rows.proofs.Row.{row_end, row_end_tail}
 use Rattle.rows.proofs.one.last_samples.Goals as goal
 
-pub bounds-out-i-2 : goal.bounds-out-i-2
-bounds-out-i-2 c = simp length-set (omega (arith, c.requires))
-
-pub bounds-out-n : goal.bounds-out-n
-bounds-out-n c = simp length-set (omega (arith, c.requires))
-
 pub returns-then-n-avg : goal.returns-then-n-avg
 returns-then-n-avg c =
     λ prev.
-    let pair = c.unsqueeze-p in
+    let pair = c.unsqueeze-first in
     let next = c.last_next in
     let a = c.args in
     let i = length a.res.now - 1 in
@@ -37,7 +31,7 @@ returns-then-n-avg c =
 pub returns-else-n-avg : goal.returns-else-n-avg
 returns-else-n-avg c =
     λ prev.
-    let pair = c.unsqueeze-p in
+    let pair = c.unsqueeze-first in
     let next = c.last_next in
     let a = c.args in
     let i = length a.res.now - 1 in

@@ -6,21 +6,15 @@ use native.Mathlib.Omega.{arith}
 use borrow.Author.Rules.{rules}
 use mir.Facts.{to_z-of_z}
 use lib.IntN.{pos}
-use lib.ListN.{length, get_or, length-set}
+use lib.ListN.{length, get_or}
 use Rattle.arith32.proofs.Whole.{back32}
-use Rattle.line.proofs.Pairs.{none, join}
+use Rattle.line.proofs.Pairs.{join}
 use Rattle.rows.proofs.Row.{row_ordinary}
 use Rattle.rows.proofs.one.ordinary_pairs.Goals as goal
 
-pub loop-i-init : goal.loop-i-init
-loop-i-init c = (none, omega arith)
-
-pub bounds-out-i-in-loop-i : goal.bounds-out-i-in-loop-i
-bounds-out-i-in-loop-i c = simp length-set (omega (arith, c.loop-i.invariant.0.long))
-
 pub loop-i-preserved : goal.loop-i-preserved
 loop-i-preserved c =
-    let pair = c.unsqueeze-p in
+    let pair = c.unsqueeze-first in
     let a = c.args in
     let i = c.loop-i.i in
     let l = c.loop-i.invariant.0.long in
@@ -37,9 +31,6 @@ loop-i-preserved c =
           refl)),
       omega arith,
     )
-
-pub shape_of-out : goal.shape_of-out
-shape_of-out c = c.loop-i.invariant.0.long
 
 pub returns : goal.returns
 returns c =

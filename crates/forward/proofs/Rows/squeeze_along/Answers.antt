@@ -1,0 +1,77 @@
+-- `squeeze_along` meets its contract: line by line (`filled_table` of proofs/Filled.antt). Assumes nothing.
+use mathlib.Core.Path.{◌≡◌, ◌∙◌}
+use mathlib.Core.Bool.{true}
+use Prim.Native.Nat.{◌+◌, ◌-◌, ◌*◌, ◌/◌}
+use native.Mathlib.Omega.{arith}
+use native.Mathlib.Nat.{add-mul}
+use Rattle.line.specs.Forward.{average_count, residual_count, average_at, residual_at}
+use Rattle.forward.specs.Rows.{along, average_entry, residual_entry}
+use Rattle.forward.proofs.Entries.{halves, row_room}
+use Rattle.forward.proofs.Filled.{filled_table}
+use Rattle.forward.proofs.Fitted.{averages_all, residuals_all, tails_alone, no_residuals}
+use Rattle.forward.proofs.Stretches.{line_average, line_residual}
+use Rattle.forward.proofs.Rows.squeeze_along.Goals as goal
+
+pub returns-then-self-lt2-clause-made : goal.returns-then-self-lt2-clause-made
+returns-then-self-lt2-clause-made c =
+    let r = c.args.self.now in
+    c.copy_from_slice.ensures.after ∙ tails_alone r.count r.width r.samples.now c.if-self-lt2.true r.whole
+
+pub returns-then-self-lt2-clause-left : goal.returns-then-self-lt2-clause-left
+returns-then-self-lt2-clause-left c =
+    let r = c.args.self.now in
+    no_residuals r.count r.width r.samples.now c.if-self-lt2.true c.args.residuals.now c.requires.1
+
+pub slice_bounds-squeeze_line-end : goal.slice_bounds-squeeze_line-end
+slice_bounds-squeeze_line-end c =
+    let r = c.args.self.now in
+    let e : r.count * (r.width - r.width / 2) ≡ r.count * average_count r.width = rw (halves r.width).0 in
+    omega (arith, row_room c.loop-y.y r.count (r.width - r.width / 2) c.loop-y-test.true)
+
+pub slice_bounds-squeeze_line-end-in-loop-y : goal.slice_bounds-squeeze_line-end-in-loop-y
+slice_bounds-squeeze_line-end-in-loop-y c =
+    let r = c.args.self.now in
+    let e : r.count * (r.width / 2) ≡ r.count * residual_count r.width = rw (halves r.width).1 in
+    omega (arith, row_room c.loop-y.y r.count (r.width / 2) c.loop-y-test.true)
+
+pub loop-y-preserved : goal.loop-y-preserved
+loop-y-preserved c =
+    let r = c.args.self.now in
+    let y = c.loop-y.y in
+    let h = halves r.width in
+    let p = add-mul y 1 (r.width - r.width / 2) in
+    let q = add-mul y 1 (r.width / 2) in
+    let w = c.row.ensures.wide in
+    let a : r.count * (r.width - r.width / 2) ≡ r.count * average_count r.width = rw h.0 in
+    let b : r.count * (r.width / 2) ≡ r.count * residual_count r.width = rw h.1 in
+    let ea = row_room y r.count (r.width - r.width / 2) c.loop-y-test.true in
+    let eb = row_room y r.count (r.width / 2) c.loop-y-test.true in
+    record {
+      in_range = omega arith;
+      made =
+          filled_table (average_entry true r.count r.width r.samples.now) (average_at (along c.row.result.now) r.width) 0 (y * (r.width - r.width / 2)) _
+          (average_count r.width) _ c.loop-y.averages c.squeeze_line.new.averages (omega arith) (rw w at c.squeeze_line.ensures.made)
+          (λ x l.
+          let z : 0 + x ≡ x = omega arith in
+          rw (z, c.row.ensures.value, h.0) (line_average r.count r.width r.samples.now y x c.loop-y-test.true l))
+          c.loop-y.invariant.made (omega arith);
+      left =
+          filled_table (residual_entry true r.count r.width r.samples.now) (residual_at (along c.row.result.now) r.width) 0 (y * (r.width / 2)) _
+          (residual_count r.width) _ c.loop-y.residuals c.squeeze_line.new.residuals (omega arith) (rw w at c.squeeze_line.ensures.left)
+          (λ x l.
+          let z : 0 + x ≡ x = omega arith in
+          rw (z, c.row.ensures.value, h.1) (line_residual r.count r.width r.samples.now y x c.loop-y-test.true l))
+          c.loop-y.invariant.left (omega arith);
+    }
+
+pub returns-clause-made : goal.returns-clause-made
+returns-clause-made c =
+    let r = c.args.self.now in
+    let e : c.loop-y.y ≡ r.count = omega (arith, c.loop-y.invariant.in_range) in
+    averages_all true r.count r.width r.samples.now c.loop-y.averages (omega arith) (rw (e, (halves r.width).0) at c.loop-y.invariant.made)
+
+pub returns-clause-left : goal.returns-clause-left
+returns-clause-left c =
+    let r = c.args.self.now in
+    let e : c.loop-y.y ≡ r.count = omega (arith, c.loop-y.invariant.in_range) in
+    residuals_all true r.count r.width r.samples.now c.loop-y.residuals (omega arith) (rw (e, (halves r.width).1) at c.loop-y.invariant.left)

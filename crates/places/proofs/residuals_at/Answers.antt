@@ -1,5 +1,0 @@
--- `residuals_at` meets its contract, by the two places. Assumes nothing.
-use Rattle.places.proofs.residuals_at.Goals as goal
-
-pub returns-then-step : goal.returns-then-step
-returns-then-step c = rw c.if-step.true
