@@ -1,5 +1,5 @@
 -- `squeeze_grid_rect` meets its contract: what `get_grid_rect` gives, refused or written (proofs/Rects.antt). Assumes nothing.
-use Rattle.std.proofs.Common.{rules, Err, ◌≡◌, ◌∙◌, refl}
+use Rattle.std.proofs.Common.{rules, ◌≡◌, ◌∙◌, refl}
 use Rattle.numbers.specs.Numbers.{answer_of, number_of}
 use Rattle.numbers.proofs.Refusals.{number_some}
 use Rattle.squeeze.proofs.Rects.{rect_refused, rect_misfit, rect_done}

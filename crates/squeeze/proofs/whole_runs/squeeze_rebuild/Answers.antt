@@ -1,5 +1,5 @@
 -- `squeeze_rebuild` meets its contract: the record's form is refused, or the call below answers (proofs/Ends.antt). Assumes nothing.
-use Rattle.std.proofs.Common.{rules, Err, ◌≡◌, ◌∙◌, refl}
+use Rattle.std.proofs.Common.{rules, ◌≡◌, ◌∙◌, refl}
 use Rattle.numbers.specs.Numbers.{answer_of, number_of}
 use Rattle.numbers.proofs.Refusals.{number_some}
 use Rattle.squeeze.proofs.Ends.{rebuild_refused, rebuild_done}
