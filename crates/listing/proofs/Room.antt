@@ -22,7 +22,7 @@ use Rattle.record.specs.Records.{read_answer, version_of, channels_of, steps_of,
 use Rattle.record.proofs.Readings.{channels_accepted, steps_judged, steps_few}
 use Rattle.listing.specs.Text.{space, newline, steps_word, channels_word, coarse_word, step_line, channel_line, direction_word, place_word, shift_words, two, meta_word, numbered, decimal}
 use Rattle.listing.specs.Listing as Listing
-use Rattle.listing.specs.Listing.{lines_text, plan_text, listing}
+use Rattle.listing.specs.Listing.{plan_text, listing}
 use Rattle.listing.specs.Putting.{number_room, step_room, channel_room, direction_room, place_room, shifts_room, listing_room}
 use Rattle.listing.proofs.Digits.{decimal_length, two_room_lem, shifts_room_lem}
 
@@ -82,7 +82,7 @@ every (x ∷ xs) = every xs
 
 pub plan_room : (version : ℕ) (ss : List Step) (cs : List Channel) → length ss ≤ max_steps → length cs ≤ max_channels → all shifts_allowed cs ≡ true
     → length (plan_text version ss cs) ≤ listing_room
-unfolding plan_text lines_text
+unfolding plan_text
 plan_room version ss cs few count allowed =
     let s = lines_room step_line (λ _. true) step_room (λ x _. step_room_lem x) ss (every ss) in
     let c = lines_room channel_line shifts_allowed channel_room channel_room_lem cs allowed in

@@ -12,17 +12,21 @@ use Rattle.record.specs.Reading.{form_of}
 use Rattle.record.specs.Records.{read_answer, version_of, channels_of}
 use Rattle.listing.specs.Text.{steps_word, channels_word, coarse_word, refused_word, numbered, step_lines, channel_lines}
 
--- the lines of a plan's steps and of the list that it leaves, with so many coarse channels
-unfoldable pub lines_text : List Step → List Channel → ℕ → List ℕ
+-- the lines of a plan's steps and of the list that it leaves; "The coarse count takes the version's side"
+unfoldable pub plan_text : ℕ → List Step → List Channel → List ℕ
+plan_text version ss cs =
+    numbered steps_word (length ss)
+    ++ (step_lines ss
+    ++ (numbered channels_word (length cs)
+    ++ (channel_lines cs ++ numbered coarse_word (coarse_count (rule_of version).stop cs))))
+
+-- the same with so many coarse channels, for the function that puts the lines
+abbrev pub lines_text : List Step → List Channel → ℕ → List ℕ
 lines_text ss cs coarse =
     numbered steps_word (length ss)
     ++ (step_lines ss
     ++ (numbered channels_word (length cs)
     ++ (channel_lines cs ++ numbered coarse_word coarse)))
-
--- "The coarse count takes the version's side"
-unfoldable pub plan_text : ℕ → List Step → List Channel → List ℕ
-plan_text version ss cs = lines_text ss cs (coarse_count (rule_of version).stop cs)
 
 -- those of a list and its steps, "the default plan by its steps"
 abbrev pub record_text : ℕ → List Step → List Channel → List ℕ
