@@ -1,17 +1,16 @@
-// Replays records (tests/records.py made `stdin`): each with the listing that
-// document 01 asks for and, where it is accepted, the numbers of its layout, and
-// written back; and inputs of the program squeeze-list, each with what it prints.
-// Every byte of the text, of the record and of the room around them is compared,
-// and every number of a layout, and each call that may be short of room is made
-// with a slice that is one too short too. Prints, for each kind of case, how many
-// there were and how many came out right.
+// Replays records (tests/records.py made `stdin`): each with its listing and, where
+// it is accepted, the numbers of its layout, and written back; and inputs of the
+// program squeeze-list, each with what it prints. Every byte of the text, of the
+// record and of the room around them is compared, and every number of a layout, and
+// each call that may be short of room is made with a slice that is one too short too.
+// Prints, for each kind of case, how many there were and how many came out right.
 #![tactic(auto)]
 
-ghost use Rattle.std.specs.Prelude.{◌+◌, ◌<◌, ◌≤◌, length};
+ghost use Rattle.std.specs.Prelude.{◌<◌, ◌≤◌};
 
-use list::ChannelList;
 use listing::LISTING_ROOM;
-use numbers::REFUSED_LENGTH;
+use numbers::Refusal;
+use plan::Form;
 use replay::{read_case, read_word, say};
 use samples::word_at;
 use std::io;
@@ -39,13 +38,72 @@ const CHANNELS_ROOM: usize = 1_025;
 
 const ORIGINS_ROOM: usize = 257;
 
-// The calls for a layout: each of the four slices one number short, then all as
-// long as they need, then each one longer.
-const TRIALS: usize = 6;
+// Whether `bytes` were written at the start of a room, and nothing past them.
+fn holds(room: &[u8; LISTING_ROOM], bytes: &[u8]) -> bool {
+    room.strip_prefix(bytes)
+        .is_some_and(|rest| rest.iter().all(|byte| *byte == MARK))
+}
 
-const LONGER: usize = 5;
+// Whether a room begins with the numbers of a row, and nothing was written past them.
+fn holds_row(room: &[u32], row: &[[u8; 4]]) -> bool {
+    match room.split_at_checked(row.len()) {
+        Some((front, rest)) => {
+            let wanted = row.iter().map(|number| u32::from_le_bytes(*number));
+            front.iter().copied().eq(wanted) & rest.iter().all(|number| *number == MARKED)
+        }
+        None => false,
+    }
+}
 
-// How many numbers the slices of a layout call have.
+// Whether the listing of a record is refused so where the text has `n` bytes and its
+// length `m` numbers, and nothing is written; none where a slice has no room.
+fn lists_nothing(bytes: &[u8], n: usize, m: usize, refusal: Refusal) -> Option<bool> {
+    let mut room = [MARK; LISTING_ROOM];
+    let mut size = [MARKED; 2];
+    let found = listing::list_record(bytes, room.get_mut(..n)?, size.get_mut(..m)?);
+    Some((found == Err(refusal)) & (size == [MARKED; 2]) & holds(&room, b""))
+}
+
+// Whether `text` is the line of a refusal: `refused` and its number.
+fn is_refusal(text: &[u8], refusal: Refusal) -> bool {
+    let number = refusal.number();
+    let digits = [b'0' + (number / 10 % 10) as u8, b'0' + (number % 10) as u8];
+    let written = if number < 10 {
+        &digits[1..]
+    } else {
+        &digits[..]
+    };
+    match text.strip_prefix(b"refused ") {
+        Some(rest) => rest.strip_suffix(b"\n") == Some(written),
+        None => false,
+    }
+}
+
+// Whether the listing of a record is `text`.
+fn lists(bytes: &[u8], text: &[u8]) -> Option<bool> {
+    let n = text.len();
+    let short = lists_nothing(bytes, n.checked_sub(1)?, 1, Refusal::Length)?;
+    let sizeless = lists_nothing(bytes, n, 0, Refusal::Length)?;
+    let mut room = [MARK; LISTING_ROOM];
+    let mut size = [MARKED; 2];
+    let listed = listing::list_record(bytes, &mut room, &mut size);
+    let [found, beside] = size;
+    let sized = (found as usize == n) & (beside == MARKED);
+    Some(short & sizeless & listed.is_ok() & sized & holds(&room, text))
+}
+
+// Whether a record is written back as it was read.
+fn writes_back(form: &Form, bytes: &[u8]) -> Option<bool> {
+    let n = bytes.len();
+    let mut small = [MARK; LISTING_ROOM];
+    let short = record::write_record(form, small.get_mut(..n.checked_sub(1)?)?);
+    let refused = (short == Err(Refusal::Length)) & holds(&small, b"");
+    let mut room = [MARK; LISTING_ROOM];
+    let written = record::write_record(form, &mut room);
+    Some(refused & (written == Ok(n)) & holds(&room, bytes))
+}
+
+// How many numbers the four slices of a layout have.
 #[derive(Clone, Copy)]
 struct Lengths {
     counts: usize,
@@ -54,234 +112,154 @@ struct Lengths {
     origins: usize,
 }
 
-// Whether `bytes` were written at the start of a room, and nothing past them.
-fn holds(room: &[u8; LISTING_ROOM], bytes: &[u8]) -> bool {
-    let n = bytes.len();
-    let found = &room[..];
-    let unwritten = [MARK; LISTING_ROOM];
-    if LISTING_ROOM < n {
-        return false;
-    }
-    check::same(&found[0..n], bytes) & check::same(&found[n..], &unwritten[n..])
-}
+impl Lengths {
+    const NOTHING: Lengths = Lengths {
+        counts: 0,
+        steps: 0,
+        channels: 0,
+        origins: 0,
+    };
 
-// Whether the listing of a record is refused with `answer` where the text has `n`
-// bytes and its length `m` numbers, and nothing is written.
-fn lists_nothing(bytes: &[u8], n: usize, m: usize, answer: u32) -> bool {
-    if LISTING_ROOM < n {
-        return false;
+    // Those that a layout with these rows needs; its counts have the version, how many
+    // steps there are, and how many channels.
+    fn needed(rows: &[u8]) -> Lengths {
+        let steps = word_at(rows, 4) as usize;
+        let channels = word_at(rows, 8) as usize;
+        Lengths {
+            counts: COUNTS,
+            steps: 3 * steps,
+            channels: 4 * channels,
+            origins: channels,
+        }
     }
-    if 2 < m {
-        return false;
-    }
-    let mut room = [MARK; LISTING_ROOM];
-    let mut size = [MARKED; 2];
-    let found = listing::list_record(bytes, &mut room[0..n], &mut size[0..m]);
-    (found == answer) & (size[0] == MARKED) & (size[1] == MARKED) & holds(&room, b"")
-}
 
-// Whether `text` is the line of a refusal: `refused` and its number.
-fn is_refusal(answer: u32, text: &[u8]) -> bool {
-    let n = text.len();
-    if n < 8 {
-        return false;
-    }
-    let word = check::same(&text[0..8], b"refused ");
-    if answer < 10 {
-        return word & check::same(&text[8..n], &[b'0' + answer as u8, b'\n']);
-    }
-    if answer < 20 {
-        return word & check::same(&text[8..n], &[b'1', b'0' + (answer - 10) as u8, b'\n']);
-    }
-    false
-}
-
-// Whether the listing of a record is `text`; of a refused record that is the
-// refusal's line, and the call gives the number alone.
-fn lists(bytes: &[u8], text: &[u8]) -> bool {
-    let n = text.len();
-    if n == 0 {
-        return false;
-    }
-    if LISTING_ROOM < n {
-        return false;
-    }
-    let answer = record::read_record(bytes).answer;
-    if answer != 0 {
-        return lists_nothing(bytes, 0, 0, answer) & is_refusal(answer, text);
-    }
-    let short = lists_nothing(bytes, n - 1, 1, REFUSED_LENGTH);
-    let sizeless = lists_nothing(bytes, n, 0, REFUSED_LENGTH);
-    let mut room = [MARK; LISTING_ROOM];
-    let mut size = [MARKED; 2];
-    let listed = listing::list_record(bytes, &mut room, &mut size);
-    let sized = (size[0] == n as u32) & (size[1] == MARKED);
-    short & sizeless & (listed == 0) & sized & holds(&room, text)
-}
-
-// Whether a record is written back as it was read, or nothing is read of it.
-fn writes_back(bytes: &[u8]) -> bool {
-    let read = record::read_record(bytes);
-    if read.answer != 0 {
-        return (read.list.count == 0) & (read.steps.count == 0);
-    }
-    let n = bytes.len();
-    if n == 0 {
-        return false;
-    }
-    if LISTING_ROOM < n {
-        return false;
-    }
-    let mut small = [MARK; LISTING_ROOM];
-    let short = record::write_record(read.version, read.list, read.steps, &mut small[0..n - 1]);
-    let refused = (short.answer == REFUSED_LENGTH) & (short.length == 0) & holds(&small, b"");
-    let mut room = [MARK; LISTING_ROOM];
-    let written = record::write_record(read.version, read.list, read.steps, &mut room);
-    refused & (written.answer == 0) & (written.length == n) & holds(&room, bytes)
-}
-
-// Whether a room holds `n` of the numbers of `rows`, from number `at` on, and its
-// mark past them.
-fn row_right(room: &[u32], rows: &[u8], at: usize, n: usize) -> bool
-    requires { (at < 4_096) × (n < 4_096) }
-{
-    let mut right = true;
-    for k in 0..room.len() {
-        let wanted = if k < n {
-            word_at(rows, 4 * (at + k))
-        } else {
-            MARKED
+    // The calls for a layout that needs these: each of the four slices one number short,
+    // then all as long as they need, then each one longer.
+    fn trials(self) -> [Lengths; 6] {
+        let counts = self.counts.saturating_sub(1);
+        let steps = self.steps.saturating_sub(1);
+        let channels = self.channels.saturating_sub(1);
+        let origins = self.origins.saturating_sub(1);
+        let longer = Lengths {
+            counts: self.counts.saturating_add(1),
+            steps: self.steps.saturating_add(1),
+            channels: self.channels.saturating_add(1),
+            origins: self.origins.saturating_add(1),
         };
-        right = right & (room[k] == wanted);
+        [
+            Lengths { counts, ..self },
+            Lengths { steps, ..self },
+            Lengths { channels, ..self },
+            Lengths { origins, ..self },
+            self,
+            longer,
+        ]
     }
-    right
+
+    // Whether no slice is shorter than in `needed`.
+    fn cover(self, needed: Lengths) -> bool {
+        (needed.counts <= self.counts)
+            & (needed.steps <= self.steps)
+            & (needed.channels <= self.channels)
+            & (needed.origins <= self.origins)
+    }
 }
 
-// Whether the layout call with slices of these lengths, cut from marked rooms,
-// answers `answer`, and puts the rows of `steps` steps and `channels` channels, or
-// nothing where it is refused.
+// Rooms for the four slices of a layout.
+#[derive(Drop)]
+struct Rooms {
+    counts: [u32; COUNTS_ROOM],
+    steps: [u32; STEPS_ROOM],
+    channels: [u32; CHANNELS_ROOM],
+    origins: [u32; ORIGINS_ROOM],
+}
+
+impl Rooms {
+    fn marked() -> Rooms {
+        Rooms {
+            counts: [MARKED; COUNTS_ROOM],
+            steps: [MARKED; STEPS_ROOM],
+            channels: [MARKED; CHANNELS_ROOM],
+            origins: [MARKED; ORIGINS_ROOM],
+        }
+    }
+
+    // The answer of the layout call with slices of these lengths; none where one has no
+    // room.
+    fn lay(&mut self, bytes: &[u8], lent: Lengths) -> Option<Result<(), Refusal>> {
+        Some(layout::layout_of(
+            bytes,
+            self.counts.get_mut(..lent.counts)?,
+            self.steps.get_mut(..lent.steps)?,
+            self.channels.get_mut(..lent.channels)?,
+            self.origins.get_mut(..lent.origins)?,
+        ))
+    }
+
+    // Whether they hold the rows of a layout, of these lengths and four bytes a number,
+    // and nothing past them.
+    fn hold(&self, rows: &[u8], lengths: Lengths) -> Option<bool> {
+        let (numbers, cut) = rows.as_chunks();
+        let (counts, rest) = numbers.split_at_checked(lengths.counts)?;
+        let (steps, rest) = rest.split_at_checked(lengths.steps)?;
+        let (channels, rest) = rest.split_at_checked(lengths.channels)?;
+        let (origins, rest) = rest.split_at_checked(lengths.origins)?;
+        Some(
+            holds_row(&self.counts, counts)
+                & holds_row(&self.steps, steps)
+                & holds_row(&self.channels, channels)
+                & holds_row(&self.origins, origins)
+                & rest.is_empty()
+                & cut.is_empty(),
+        )
+    }
+}
+
+// Whether the layout call with slices of these lengths comes out right, of a record that
+// is read so; none where a slice has no room.
 fn lays(
     bytes: &[u8],
     rows: &[u8],
+    read: Result<(), Refusal>,
+    needed: Lengths,
     lent: Lengths,
-    answer: u32,
-    steps: usize,
-    channels: usize,
-    counts: &mut [u32],
-    flat: &mut [u32],
-    list: &mut [u32],
-    origins: &mut [u32],
-) -> bool
-    requires { (lent.counts ≤ length counts.old) × (lent.steps ≤ length flat.old) × (lent.channels ≤ length list.old) × (lent.origins ≤ length origins.old) × (steps ≤ 64) × (channels ≤ 256) }
-{
-    let c = lent.counts;
-    let s = lent.steps;
-    let h = lent.channels;
-    let o = lent.origins;
-    let found = layout::layout_of(
-        bytes,
-        &mut counts[0..c],
-        &mut flat[0..s],
-        &mut list[0..h],
-        &mut origins[0..o],
-    );
-    if answer != 0 {
-        let kept = row_right(counts, rows, 0, 0) & row_right(flat, rows, 0, 0);
-        return (found == answer)
-            & kept
-            & row_right(list, rows, 0, 0)
-            & row_right(origins, rows, 0, 0);
-    }
-    let first = COUNTS + 3 * steps;
-    let last = first + 4 * channels;
-    let put = row_right(counts, rows, 0, COUNTS) & row_right(flat, rows, COUNTS, 3 * steps);
-    (found == 0)
-        & put
-        & row_right(list, rows, first, 4 * channels)
-        & row_right(origins, rows, last, channels)
+) -> Option<bool> {
+    let wanted = if lent.cover(needed) {
+        read
+    } else {
+        read.and(Err(Refusal::Length))
+    };
+    let mut rooms = Rooms::marked();
+    let found = rooms.lay(bytes, lent)?;
+    let left = match wanted {
+        Ok(()) => rooms.hold(rows, needed)?,
+        Err(_) => rooms.hold(b"", Lengths::NOTHING)?,
+    };
+    Some((found == wanted) & left)
 }
 
-// The length of slice `k` in a trial, where a layout needs n numbers: one short in
-// its own, one longer in the last.
-fn lent_of(n: usize, trial: usize, k: usize) -> usize
-    requires { n < 4_096 }
-    ensures { result ≤ n + 1 }
-{
-    if trial == k {
-        if 0 < n { n - 1 } else { 0 }
-    } else if trial == LONGER {
-        n + 1
-    } else {
-        n
-    }
+// Whether the layout of a record that is read so comes out right in every trial.
+fn lays_out(bytes: &[u8], rows: &[u8], read: Result<(), Refusal>) -> bool {
+    let needed = Lengths::needed(rows);
+    needed.trials().iter().all(|lent| lays(bytes, rows, read, needed, *lent) == Some(true))
 }
 
-// Whether a trial of a layout of `steps` steps and `channels` channels comes out
-// right, of a record that is refused with `refusal` or not at all.
-fn trial_right(
-    bytes: &[u8],
-    rows: &[u8],
-    refusal: u32,
-    steps: usize,
-    channels: usize,
-    trial: usize,
-) -> bool
-    requires { (steps ≤ 64) × (channels ≤ 256) }
-{
-    let lent = Lengths {
-        counts: lent_of(COUNTS, trial, 0),
-        steps: lent_of(3 * steps, trial, 1),
-        channels: lent_of(4 * channels, trial, 2),
-        origins: lent_of(channels, trial, 3),
-    };
-    let short = (trial < 4) & ((trial != 1) | (0 < steps));
-    let answer = if refusal != 0 {
-        refusal
-    } else if short {
-        REFUSED_LENGTH
-    } else {
-        0
-    };
-    let mut counts = [MARKED; COUNTS_ROOM];
-    let mut flat = [MARKED; STEPS_ROOM];
-    let mut list = [MARKED; CHANNELS_ROOM];
-    let mut origins = [MARKED; ORIGINS_ROOM];
-    lays(
-        bytes,
-        rows,
-        lent,
-        answer,
-        steps,
-        channels,
-        &mut counts,
-        &mut flat,
-        &mut list,
-        &mut origins,
-    )
+fn accepted(form: &Form, bytes: &[u8], text: &[u8], rows: &[u8]) -> Option<bool> {
+    Some(lists(bytes, text)? & writes_back(form, bytes)? & lays_out(bytes, rows, Ok(())))
 }
 
-// Whether the layout of a record has the numbers of `rows`, in every trial, and
-// a refused one has none.
-fn lays_out(bytes: &[u8], rows: &[u8]) -> bool {
-    let refusal = record::read_record(bytes).answer;
-    let steps = word_at(rows, 4) as usize;
-    let channels = word_at(rows, 8) as usize;
-    if ChannelList::MAX_STEPS < steps {
-        return false;
-    }
-    if ChannelList::MAX_CHANNELS < channels {
-        return false;
-    }
-    let whole = if refusal == 0 {
-        4 * (COUNTS + 3 * steps + 5 * channels)
-    } else {
-        0
+// A refused record has the refusal's line for its listing, and no layout.
+fn refused(refusal: Refusal, bytes: &[u8], text: &[u8], rows: &[u8]) -> Option<bool> {
+    let listed = is_refusal(text, refusal) & lists_nothing(bytes, 0, 0, refusal)?;
+    Some(listed & rows.is_empty() & lays_out(bytes, rows, Err(refusal)))
+}
+
+fn record_agrees(bytes: &[u8], text: &[u8], rows: &[u8]) -> bool {
+    let agrees = match record::read_record(bytes) {
+        Ok(form) => accepted(&form, bytes, text, rows),
+        Err(refusal) => refused(refusal, bytes, text, rows),
     };
-    let mut right = rows.len() == whole;
-    for trial in 0..TRIALS {
-        right = right & trial_right(bytes, rows, refusal, steps, channels, trial);
-    }
-    right
+    agrees == Some(true)
 }
 
 // Whether `text` is what the program prints for an input.
@@ -291,51 +269,51 @@ fn prints(input: &[u8], text: &[u8]) -> bool {
     (length == text.len()) & holds(&room, text)
 }
 
-fn agrees(is_record: bool, bytes: &[u8], text: &[u8], rows: &[u8]) -> bool {
-    if is_record {
-        lists(bytes, text) & writes_back(bytes) & lays_out(bytes, rows)
-    } else {
-        prints(bytes, text)
-    }
-}
-
-// Replays the next cases of standard input; how many are right.
-fn replay<R: Read>(input: &mut R, cases: u32, are_records: bool) -> io::Result<u64> {
+// Replays the cases of the next kind, three slices each (a record or an input, its text
+// and its layout's rows), and says how many of them `agrees` finds right.
+fn kind<R: Read, F: Fn(&[u8], &[u8], &[u8]) -> bool>(
+    rt: &impl Print,
+    input: &mut R,
+    name: &str,
+    agrees: F,
+) -> io::Result<()>
+    requires { F.IsAlwaysCallable agrees }
+{
     let mut bytes = [0u8; INPUT_ROOM];
     let mut text = [0u8; LISTING_ROOM];
     let mut rows = [0u8; LAYOUT_ROOM];
+    let cases = read_word(input)?;
     let mut right = 0u64;
     for _ in 0..cases {
         let n = read_case(input, &mut bytes)?;
         let m = read_case(input, &mut text)?;
         let r = read_case(input, &mut rows)?;
-        if agrees(are_records, &bytes[0..n], &text[0..m], &rows[0..r]) {
+        if agrees(&bytes[..n], &text[..m], &rows[..r]) {
             right += 1;
         }
     }
-    Ok(right)
-}
-
-// Replays the cases of the next kind and says how many are right.
-fn kind<R: Read>(rt: &impl Print, input: &mut R, name: &str, are_records: bool) -> io::Result<()> {
-    let cases = read_word(input)?;
-    say(rt, name, cases as u64, replay(input, cases, are_records)?)
+    say(rt, name, cases as u64, right)
 }
 
 fn main(rt: HostRuntime) -> io::Result<()> {
     let mut input = rt.reader();
-    kind(&rt, &mut input, "printed ", true)?;
-    kind(&rt, &mut input, "cuts ", true)?;
-    kind(&rt, &mut input, "refusals ", true)?;
-    kind(&rt, &mut input, "order ", true)?;
-    kind(&rt, &mut input, "limits ", true)?;
-    kind(&rt, &mut input, "sizes ", true)?;
-    kind(&rt, &mut input, "metas ", true)?;
-    kind(&rt, &mut input, "plans ", true)?;
-    kind(&rt, &mut input, "bytes ", true)?;
-    kind(&rt, &mut input, "strips ", true)?;
-    kind(&rt, &mut input, "versions ", true)?;
-    kind(&rt, &mut input, "origins ", true)?;
-    kind(&rt, &mut input, "inputs ", false)?;
+    kind(&rt, &mut input, "printed ", record_agrees)?;
+    kind(&rt, &mut input, "cuts ", record_agrees)?;
+    kind(&rt, &mut input, "refusals ", record_agrees)?;
+    kind(&rt, &mut input, "order ", record_agrees)?;
+    kind(&rt, &mut input, "limits ", record_agrees)?;
+    kind(&rt, &mut input, "sizes ", record_agrees)?;
+    kind(&rt, &mut input, "metas ", record_agrees)?;
+    kind(&rt, &mut input, "plans ", record_agrees)?;
+    kind(&rt, &mut input, "bytes ", record_agrees)?;
+    kind(&rt, &mut input, "strips ", record_agrees)?;
+    kind(&rt, &mut input, "versions ", record_agrees)?;
+    kind(&rt, &mut input, "origins ", record_agrees)?;
+    kind(
+        &rt,
+        &mut input,
+        "inputs ",
+        |input, text, _| prints(input, text),
+    )?;
     Ok(())
 }

@@ -1,29 +1,20 @@
-// Replays whole records (tests/runs.py made `stdin`) through the C functions
-// squeeze_rebuild and squeeze_write: what document 01's rules give for pictures
-// and pyramids both ways, and each refusal. The answer, the slice that is filled,
-// the work slice, the slice that is read and the samples around the lent slices
-// are compared. Prints, for each kind of case, how many there were and how many
-// came out right.
+// Replays whole records (tests/runs.py made `stdin`) through what the C functions
+// squeeze_rebuild and squeeze_write call: what the rules give for pictures and
+// pyramids both ways, and each refusal. The answer, the slice that is filled, the
+// work slice, the slice that is read and the samples around the lent slices are
+// compared. Prints, for each kind of case, how many there were and how many came out
+// right.
 #![tactic(auto)]
 
-ghost use Rattle.std.specs.Prelude.{◌<◌, ◌≤◌, length};
-
-use numbers::REFUSED_LENGTH;
-use replay::{read_case, read_word, say};
+use numbers::{Refusal, answer_of};
 use samples::{decode, fill, kept, same, word_at};
+use squeeze::whole_runs::{squeeze_rebuild, squeeze_write};
 use std::io;
 use std::io::Read;
 
-// The head of a case, by bytes: the answer, the record's length in bytes and the
-// lengths in samples of the slices that are read, filled and for work. The record
-// follows, then the samples that are read, and where the answer is 0 those that
-// are expected.
-const ANSWER: usize = 0;
-
-const RECORD: usize = 4;
-
-const LENGTHS: usize = 8;
-
+// The bytes of a case's head: the answer, the record's length in bytes and the lengths
+// in samples of the slices that are read, filled and for work. The record follows,
+// then the samples that are read, and where the answer is 0 those that are expected.
 const HEAD: usize = 20;
 
 // Samples before and after a lent slice that is written.
@@ -34,235 +25,60 @@ const CASE: usize = 1_048_576;
 
 const ROOM: usize = 131_072;
 
-// A slice may have fewer samples than this.
-const SAMPLES: usize = 131_040;
-
-// The calls of an accepted case each way: one with the lengths that are right,
-// then each of the three slices one sample short, then each one sample long. A
-// refused case has the first only.
-const TRIALS: usize = 7;
-
-// A call: the function, the answer that it must give, and the lengths of the
-// slices that are read, filled and for work.
+// The lengths of the slices that are read, filled and for work.
 #[derive(Clone, Copy)]
-struct Call {
-    rebuilds: bool,
-    answer: u32,
-    read: usize,
-    filled: usize,
-    work: usize,
+struct Lengths {
+    read: u32,
+    filled: u32,
+    work: u32,
 }
 
-// The length of slice `k`.
-fn length_of(case: &[u8], k: usize) -> usize
-    ensures { result < 4_294_967_296 }
-{
-    if 2 < k {
-        return 0;
-    }
-    word_at(case, LENGTHS + 4 * k) as usize
-}
-
-fn answer_of(
-    rebuilds: bool,
-    bytes: &[u8],
-    source: &[i32],
-    filled: &mut [i32],
-    work: &mut [i32],
-) -> u32 {
-    if rebuilds {
-        squeeze::whole_runs::squeeze_rebuild(bytes, source, filled, work)
-    } else {
-        squeeze::whole_runs::squeeze_write(bytes, source, filled, work)
-    }
-}
-
-// Whether a call has left the slices that are filled and for work, and the
-// samples around them, as it must.
-fn rooms_right(call: Call, wanted: &[u8], filled: &[i32], work: &[i32]) -> bool
-    requires { (call.filled ≤ 131_040) × (call.work ≤ 131_040) × (131_072 ≤ length filled.now) × (131_072 ≤ length work.now) }
-{
-    let f = GUARD + call.filled;
-    let w = GUARD + call.work;
-    if call.answer != 0 {
-        return kept(filled, 0, f + GUARD) & kept(work, 0, w + GUARD);
-    }
-    let around = kept(filled, 0, GUARD) & kept(filled, f, f + GUARD);
-    let beside = kept(work, 0, GUARD) & kept(work, w, w + GUARD);
-    around & beside & same(wanted, &filled[GUARD..f]) & same(b"", &work[GUARD..w])
-}
-
-// Marks a room as far as a lent slice with its guards reaches.
-fn fill_room(room: &mut [i32], lent: usize)
-    requires { (lent ≤ 131_040) × (131_072 ≤ length room.old) }
-{
-    let to = GUARD + lent + GUARD;
-    fill(&mut room[0..to]);
-}
-
-// Whether a call gives its answer and leaves every slice as it must.
-fn call_right(
-    call: Call,
-    bytes: &[u8],
-    given: &[u8],
-    wanted: &[u8],
-    source: &mut [i32],
-    filled: &mut [i32],
-    work: &mut [i32],
-) -> bool
-    requires { (call.read ≤ 131_040) × (call.filled ≤ 131_040) × (call.work ≤ 131_040) × (131_072 ≤ length source.old) × (131_072 ≤ length filled.old) × (131_072 ≤ length work.old) }
-{
-    let r = call.read;
-    let f = GUARD + call.filled;
-    let w = GUARD + call.work;
-    decode(given, &mut source[0..r]);
-    fill_room(filled, call.filled);
-    fill_room(work, call.work);
-    let answered = answer_of(
-        call.rebuilds,
-        bytes,
-        &source[0..r],
-        &mut filled[GUARD..f],
-        &mut work[GUARD..w],
-    );
-    let rooms = rooms_right(call, wanted, filled, work);
-    (answered == call.answer) & same(given, &source[0..r]) & rooms
-}
-
-// The length of slice `k` in a trial, where the case says n. One sample short of
-// none is one sample long.
-fn trial_length(n: usize, trial: usize, k: usize) -> usize
-    requires { k < 3 }
-    ensures { result ≤ 131_040 }
-{
-    if SAMPLES <= n {
-        return 0;
-    }
-    if trial == k + 4 {
-        n + 1
-    } else if trial == k + 1 {
-        if 0 < n { n - 1 } else { 1 }
-    } else {
-        n
+impl Lengths {
+    // Wrong lengths: each of the three slices one sample short, then each one sample long.
+    fn wrong(self) -> [Lengths; 6] {
+        [
+            Lengths {
+                read: shorter(self.read),
+                ..self
+            },
+            Lengths {
+                filled: shorter(self.filled),
+                ..self
+            },
+            Lengths {
+                work: shorter(self.work),
+                ..self
+            },
+            Lengths {
+                read: self.read.saturating_add(1),
+                ..self
+            },
+            Lengths {
+                filled: self.filled.saturating_add(1),
+                ..self
+            },
+            Lengths {
+                work: self.work.saturating_add(1),
+                ..self
+            },
+        ]
     }
 }
 
-fn trial_call(case: &[u8], rebuilds: bool, trial: usize) -> Call
-    ensures { (result.read ≤ 131_040) × (result.filled ≤ 131_040) × (result.work ≤ 131_040) }
-{
-    Call {
-        rebuilds: rebuilds,
-        answer: if trial == 0 {
-            word_at(case, ANSWER)
-        } else {
-            REFUSED_LENGTH
-        },
-        read: trial_length(length_of(case, 0), trial, 0),
-        filled: trial_length(length_of(case, 1), trial, 1),
-        work: trial_length(length_of(case, 2), trial, 2),
-    }
+// One sample short; of none, one sample long.
+fn shorter(n: u32) -> u32 {
+    n.checked_sub(1).unwrap_or(1)
 }
 
-fn trials_of(case: &[u8]) -> usize
-    ensures { result ≤ 7 }
-{
-    if word_at(case, ANSWER) == 0 {
-        TRIALS
-    } else {
-        1
-    }
+// Rooms for the samples of the three slices, those that are written with their guards.
+#[derive(Drop)]
+struct Rooms {
+    source: [i32; ROOM],
+    filled: [i32; ROOM],
+    work: [i32; ROOM],
 }
 
-// Whether every trial of one function comes out right.
-fn trials_right(
-    case: &[u8],
-    rebuilds: bool,
-    bytes: &[u8],
-    given: &[u8],
-    wanted: &[u8],
-    source: &mut [i32],
-    filled: &mut [i32],
-    work: &mut [i32],
-) -> bool
-    requires { (131_072 ≤ length source.old) × (131_072 ≤ length filled.old) × (131_072 ≤ length work.old) }
-{
-    let trials = trials_of(case);
-    let mut right = true;
-    for trial in 0..trials {
-        let call = trial_call(case, rebuilds, trial);
-        right = right & call_right(call, bytes, given, wanted, source, filled, work);
-    }
-    right
-}
-
-// Whether the case is as long as its head says, and its slices have room.
-fn whole(case: &[u8]) -> bool {
-    let n = length_of(case, 0);
-    let f = length_of(case, 1);
-    let w = length_of(case, 2);
-    let room = (n < SAMPLES) & (f < SAMPLES) & (w < SAMPLES);
-    let start = HEAD + word_at(case, RECORD) as usize;
-    if word_at(case, ANSWER) == 0 {
-        room & (f == n) & (w == n) & (case.len() == start + 8 * n)
-    } else {
-        room & (case.len() == start + 4 * n)
-    }
-}
-
-// Where the samples start that the writer reads: those expected of the other
-// function, or in a refused case the same.
-fn other(case: &[u8], start: usize, middle: usize) -> usize
-    requires { start ≤ middle }
-    ensures { result ≤ middle }
-{
-    if word_at(case, ANSWER) == 0 {
-        middle
-    } else {
-        start
-    }
-}
-
-// Whether the case's calls come out right. An accepted case is run both ways:
-// what one function reads is what the other must fill.
-fn agrees(case: &[u8], source: &mut [i32], filled: &mut [i32], work: &mut [i32]) -> bool
-    requires { (131_072 ≤ length source.old) × (131_072 ≤ length filled.old) × (131_072 ≤ length work.old) }
-{
-    let start = HEAD + word_at(case, RECORD) as usize;
-    let middle = start + 4 * length_of(case, 0);
-    if case.len() < middle {
-        return false;
-    }
-    let bytes = &case[HEAD..start];
-    let pyramid = &case[start..middle];
-    let picture = &case[other(case, start, middle)..];
-    let rebuilt = trials_right(case, true, bytes, pyramid, picture, source, filled, work);
-    let written = trials_right(case, false, bytes, picture, pyramid, source, filled, work);
-    whole(case) & rebuilt & written
-}
-
-// Replays the next cases of standard input, one after the other in the same rooms;
-// how many are right.
-fn replay_in<R: Read>(
-    input: &mut R,
-    cases: u32,
-    space: &mut [u8],
-    source: &mut [i32],
-    filled: &mut [i32],
-    work: &mut [i32],
-) -> io::Result<u64>
-    requires { (131_072 ≤ length source.old) × (131_072 ≤ length filled.old) × (131_072 ≤ length work.old) }
-{
-    let mut right = 0u64;
-    for _ in 0..cases {
-        let n = read_case(input, space)?;
-        if agrees(&space[0..n], source, filled, work) {
-            right += 1;
-        }
-    }
-    Ok(right)
-}
-
-// Arrays of this size have functions of their own: a proof that meets the zeros
+// An array of this size has a function of its own: a proof that meets the zeros
 // themselves counts them one by one.
 fn case_room() -> [u8; CASE] {
     [0; CASE]
@@ -272,25 +88,138 @@ fn sample_room() -> [i32; ROOM] {
     [0; ROOM]
 }
 
-fn replay<R: Read>(input: &mut R, cases: u32) -> io::Result<u64> {
-    let mut space = case_room();
-    let mut source = sample_room();
-    let mut filled = sample_room();
-    let mut work = sample_room();
-    replay_in(
-        input,
-        cases,
-        &mut space,
-        &mut source,
-        &mut filled,
-        &mut work,
-    )
+impl Rooms {
+    fn empty() -> Rooms {
+        Rooms {
+            source: sample_room(),
+            filled: sample_room(),
+            work: sample_room(),
+        }
+    }
+}
+
+// Marks a room as far as a lent slice with its guards reaches, and lends the slice; none
+// where it has no room.
+fn lend(room: &mut [i32; ROOM], n: u32) -> Option<&mut [i32]> {
+    let to = GUARD + n as usize;
+    fill(room.get_mut(..to + GUARD)?);
+    room.get_mut(GUARD..to)
+}
+
+// Whether a room holds these samples where a slice was lent, zeros past their end, and
+// nothing was written around it.
+fn holds(room: &[i32; ROOM], n: u32, samples: &[u8]) -> bool {
+    let to = GUARD + n as usize;
+    match room.get(GUARD..to) {
+        Some(lent) => kept(room, 0, GUARD) & same(samples, lent) & kept(room, to, to + GUARD),
+        None => false,
+    }
+}
+
+// Whether nothing was written in a room, as far as a lent slice with its guards reaches.
+fn untouched(room: &[i32; ROOM], n: u32) -> bool {
+    kept(room, 0, GUARD + n as usize + GUARD)
+}
+
+// A case one way: the answer that the call must give, the lengths that are right, the
+// record, and the samples that are read and those that are expected, as bytes.
+#[derive(Clone, Copy)]
+struct Run<'a> {
+    answer: u32,
+    lengths: Lengths,
+    record: &'a [u8],
+    given: &'a [u8],
+    wanted: &'a [u8],
+}
+
+impl<'a> Run<'a> {
+    // Whether a call with slices of these lengths gives this answer and leaves every slice
+    // as it must; none where one has no room.
+    fn call_right<F: Fn(&[u8], &[i32], &mut [i32], &mut [i32]) -> Result<(), Refusal>>(
+        &self,
+        call: &F,
+        lengths: Lengths,
+        answer: u32,
+        rooms: &mut Rooms,
+    ) -> Option<bool>
+        requires { F.IsAlwaysCallable call.now }
+    {
+        let source = rooms.source.get_mut(..lengths.read as usize)?;
+        decode(self.given, source);
+        let filled = lend(&mut rooms.filled, lengths.filled)?;
+        let work = lend(&mut rooms.work, lengths.work)?;
+        let answered = answer_of(call(self.record, source, filled, work));
+        let left = if answer == 0 {
+            holds(&rooms.filled, lengths.filled, self.wanted)
+                & holds(&rooms.work, lengths.work, b"")
+        } else {
+            untouched(&rooms.filled, lengths.filled) & untouched(&rooms.work, lengths.work)
+        };
+        Some((answered == answer) & same(self.given, source) & left)
+    }
+
+    // Whether every call comes out right: an accepted case is tried with wrong lengths too.
+    fn right<F: Fn(&[u8], &[i32], &mut [i32], &mut [i32]) -> Result<(), Refusal>>(
+        &self,
+        call: &F,
+        rooms: &mut Rooms,
+    ) -> Option<bool>
+        requires { F.IsAlwaysCallable call.now }
+    {
+        let mut right = self.call_right(call, self.lengths, self.answer, rooms)?;
+        if self.answer == 0 {
+            let refused = Refusal::Length.number();
+            for lengths in self.lengths.wrong() {
+                right &= self.call_right(call, lengths, refused, rooms)?;
+            }
+        }
+        Some(right)
+    }
+}
+
+// Whether the case's calls come out right; none where it is cut short, or a slice has no
+// room. An accepted case is run both ways: what one function reads is what the other
+// must fill. A refused one gives both the same samples to read.
+fn agrees(case: &[u8], rooms: &mut Rooms) -> Option<bool> {
+    let (head, rest): (&[u8; HEAD], &[u8]) = case.split_first_chunk()?;
+    let answer = word_at(head, 0);
+    let read = word_at(head, 8);
+    let lengths = Lengths {
+        read,
+        filled: word_at(head, 12),
+        work: word_at(head, 16),
+    };
+    let (record, samples) = rest.split_at_checked(word_at(head, 4) as usize)?;
+    let (pyramid, expected) = samples.split_at_checked(4 * read as usize)?;
+    let (whole, picture) = if answer == 0 {
+        let even = (lengths.filled == read) & (lengths.work == read);
+        (even & (expected.len() == pyramid.len()), expected)
+    } else {
+        (expected.is_empty(), pyramid)
+    };
+    let rebuilt = Run {
+        answer,
+        lengths,
+        record,
+        given: pyramid,
+        wanted: picture,
+    };
+    let written = Run {
+        given: picture,
+        wanted: pyramid,
+        ..rebuilt
+    };
+    let rebuilds = rebuilt.right(&squeeze_rebuild, rooms)?;
+    Some(whole & rebuilds & written.right(&squeeze_write, rooms)?)
 }
 
 // Replays the cases of the next kind and says how many are right.
 fn kind<R: Read>(rt: &impl Print, input: &mut R, name: &str) -> io::Result<()> {
-    let cases = read_word(input)?;
-    say(rt, name, cases as u64, replay(input, cases)?)
+    let mut space = case_room();
+    let mut rooms = Rooms::empty();
+    replay::kind(rt, input, name, &mut space, |case| {
+        agrees(case, &mut rooms) == Some(true)
+    })
 }
 
 fn main(rt: HostRuntime) -> io::Result<()> {

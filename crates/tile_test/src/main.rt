@@ -5,27 +5,16 @@
 // case, how many there were and how many came out right.
 #![tactic(auto)]
 
-ghost use Rattle.std.specs.Prelude.{◌<◌, ◌≤◌, length};
+ghost use Rattle.std.specs.Prelude.{◌<◌, ◌≤◌};
 
 use numbers::answer_of;
-use replay::{read_case, read_word, say};
 use samples::{decode, fill, kept, same, word_at};
 use std::io;
 use std::io::Read;
 use tile::Sides;
 
-// The head of a case, by bytes: the answer, the direction, six sides of eight
-// bytes each, and the lengths of the slices (averages, residuals, next line,
-// previous line, output). The samples of the first four slices follow, and those
+// The bytes of a case's head. The samples of the first four slices follow, and those
 // of the output where the answer is 0.
-const ANSWER: usize = 0;
-
-const DIRECTION: usize = 4;
-
-const SIDES: usize = 8;
-
-const LENGTHS: usize = 56;
-
 const HEAD: usize = 76;
 
 // Room for a case's bytes, and for the samples of its slices.
@@ -36,146 +25,120 @@ const ROOM: usize = 1024;
 // Samples before and after the lent output, at least.
 const GUARD: usize = 16;
 
+// The head of a case, in this order: numbers of four bytes each, sides of eight.
+#[derive(Clone, Copy)]
+struct Head {
+    answer: u32,
+    horizontal: bool,
+    avgs: Sides,
+    ress: Sides,
+    outs: Sides,
+    // Of averages, residuals, next line, previous line and output.
+    lengths: [u32; 5],
+}
+
+impl Head {
+    fn read(bytes: &[u8; HEAD]) -> Head {
+        Head {
+            answer: word_at(bytes, 0),
+            horizontal: word_at(bytes, 4) != 0,
+            avgs: sides_at(bytes, 8),
+            ress: sides_at(bytes, 24),
+            outs: sides_at(bytes, 40),
+            lengths: [56, 60, 64, 68, 72].map(|at| word_at(bytes, at)),
+        }
+    }
+
+    // The samples of the four slices that are read.
+    fn given(&self) -> usize
+        ensures { result < 17_179_869_184 }
+    {
+        let [avg, res, next, prev, _] = self.lengths;
+        avg as usize + res as usize + next as usize + prev as usize
+    }
+
+    // The call's answer. The four slices that are read stand one after the other; none
+    // where there are fewer samples.
+    fn call(&self, given: &[i32], out: &mut [i32]) -> Option<u32> {
+        let (avg, rest) = given.split_at_checked(self.lengths[0] as usize)?;
+        let (res, rest) = rest.split_at_checked(self.lengths[1] as usize)?;
+        let (next, rest) = rest.split_at_checked(self.lengths[2] as usize)?;
+        let (prev, _) = rest.split_at_checked(self.lengths[3] as usize)?;
+        Some(answer_of(tile::squeeze_tile(
+            self.horizontal,
+            self.avgs,
+            self.ress,
+            self.outs,
+            avg,
+            res,
+            next,
+            prev,
+            out,
+        )))
+    }
+
+    // Whether the room holds the wanted output up to `to`, after a refusal none and what
+    // stood there, and nothing was written around it.
+    fn left_right(&self, wanted: &[u8], room: &[i32], to: usize) -> bool {
+        if self.answer != 0 {
+            return wanted.is_empty() & kept(room, 0, room.len());
+        }
+        match room.get(GUARD..to) {
+            Some(out) => {
+                (wanted.len() == 4 * out.len())
+                    & kept(room, 0, GUARD)
+                    & same(wanted, out)
+                    & kept(room, to, room.len())
+            }
+            None => false,
+        }
+    }
+}
+
 // The number of eight bytes that starts at `at`.
-fn number_at(bytes: &[u8], at: usize) -> usize {
-    if bytes.len() <= at {
-        return 0;
-    }
-    word_at(bytes, at) as usize + 0x1_0000_0000 * word_at(bytes, at + 4) as usize
+fn number_at(bytes: &[u8; HEAD], at: usize) -> usize
+    requires { at ≤ 68 }
+{
+    bytes[at..]
+        .first_chunk()
+        .map_or(0, |number| usize::from_le_bytes(*number))
 }
 
-// Rectangle `k` of the three: two sides of eight bytes each.
-fn sides_of(case: &[u8], k: u8) -> Sides {
-    let at = SIDES + 16 * k as usize;
+fn sides_at(bytes: &[u8; HEAD], at: usize) -> Sides
+    requires { at ≤ 60 }
+{
     Sides {
-        width: number_at(case, at),
-        height: number_at(case, at + 8),
+        width: number_at(bytes, at),
+        height: number_at(bytes, at + 8),
     }
 }
 
-// The length of slice `k`.
-fn length_of(case: &[u8], k: usize) -> usize
-    ensures { result < 4_294_967_296 }
-{
-    if 4 < k {
-        return 0;
+// Whether the call of a case gives its answer and its output; none where the case is
+// cut short, or its slices have no room.
+fn agrees(case: &[u8], slices: &mut [i32], room: &mut [i32]) -> Option<bool> {
+    let (head, samples) = case.split_first_chunk()?;
+    let head = Head::read(head);
+    let n = head.given();
+    let (given, wanted) = samples.split_at_checked(4 * n)?;
+    let to = GUARD + head.lengths[4] as usize;
+    if (slices.len() < n) | (room.len() < to + GUARD) {
+        return None;
     }
-    word_at(case, LENGTHS + 4 * k) as usize
-}
-
-// The samples of the four slices that are read.
-fn given(case: &[u8]) -> usize
-    ensures { result < 17_179_869_184 }
-{
-    length_of(case, 0) + length_of(case, 1) + length_of(case, 2) + length_of(case, 3)
-}
-
-// Whether the case is as long as its head says.
-fn whole(case: &[u8]) -> bool {
-    let n = given(case);
-    if word_at(case, ANSWER) == 0 {
-        case.len() == HEAD + 4 * (n + length_of(case, 4))
-    } else {
-        case.len() == HEAD + 4 * n
-    }
-}
-
-fn call<'a>(
-    case: &[u8],
-    avg: &'a [i32],
-    res: &[i32],
-    next: &'a [i32],
-    prev: &'a [i32],
-    out: &mut [i32],
-) -> u32 {
-    answer_of(tile::squeeze_tile(
-        word_at(case, DIRECTION) != 0,
-        sides_of(case, 0),
-        sides_of(case, 1),
-        sides_of(case, 2),
-        avg,
-        res,
-        next,
-        prev,
-        out,
-    ))
-}
-
-// Whether the call gives the case's answer. The four slices that are read stand
-// one after the other.
-fn answers(case: &[u8], slices: &[i32], out: &mut [i32]) -> bool {
-    let a = length_of(case, 0);
-    let r = a + length_of(case, 1);
-    let n = r + length_of(case, 2);
-    let p = n + length_of(case, 3);
-    if slices.len() < p {
-        return false;
-    }
-    let answer = call(
-        case,
-        &slices[0..a],
-        &slices[a..r],
-        &slices[r..n],
-        &slices[n..p],
-        out,
-    );
-    answer == word_at(case, ANSWER)
-}
-
-// Whether the room holds the wanted output from `from` to `to`, or after a refusal
-// what stood there, and nothing was written around it.
-fn output_right(answer: u32, wanted: &[u8], room: &[i32], from: usize, to: usize) -> bool
-    requires { (from ≤ to) × (to ≤ length room.now) }
-{
-    if answer != 0 {
-        return kept(room, 0, room.len());
-    }
-    kept(room, 0, from) & same(wanted, &room[from..to]) & kept(room, to, room.len())
-}
-
-// Whether the call of a case gives its answer and its output.
-fn agrees(case: &[u8], slices: &mut [i32], room: &mut [i32]) -> bool {
-    let n = given(case);
-    let start = HEAD + 4 * n;
-    let to = GUARD + length_of(case, 4);
-    if case.len() < start {
-        return false;
-    }
-    if slices.len() < n {
-        return false;
-    }
-    if room.len() < to + GUARD {
-        return false;
-    }
-    decode(&case[HEAD..start], &mut slices[0..n]);
+    let slices = &mut slices[..n];
+    decode(given, slices);
     fill(room);
-    let answered = answers(case, slices, &mut room[GUARD..to]);
-    let left = output_right(word_at(case, ANSWER), &case[start..], room, GUARD, to);
-    answered & whole(case) & left
-}
-
-// Replays the next cases of standard input; how many are right.
-fn replay<R: Read>(input: &mut R, cases: u32) -> io::Result<u64> {
-    let mut space = [0u8; CASE];
-    let mut slices = [0i32; ROOM];
-    let mut room = [0i32; ROOM];
-    let mut right = 0u64;
-    for _ in 0..cases {
-        let n = read_case(input, &mut space)?;
-        if n == 0 {
-            return Ok(right);
-        }
-        if agrees(&space[0..n], &mut slices, &mut room) {
-            right += 1;
-        }
-    }
-    Ok(right)
+    let answer = head.call(slices, &mut room[GUARD..to])?;
+    Some((answer == head.answer) & head.left_right(wanted, room, to))
 }
 
 // Replays the cases of the next kind and says how many are right.
 fn kind<R: Read>(rt: &impl Print, input: &mut R, name: &str) -> io::Result<()> {
-    let cases = read_word(input)?;
-    say(rt, name, cases as u64, replay(input, cases)?)
+    let mut space = [0u8; CASE];
+    let mut slices = [0i32; ROOM];
+    let mut room = [0i32; ROOM];
+    replay::kind(rt, input, name, &mut space, |case| {
+        agrees(case, &mut slices, &mut room) == Some(true)
+    })
 }
 
 fn main(rt: HostRuntime) -> io::Result<()> {
