@@ -10,8 +10,10 @@ ghost use Rattle.std.proofs.Math.Seq.{paste};
 ghost use Rattle.line.specs.Uncut.{squeeze, uncut, Fitting};
 ghost use Rattle.line.specs.Pairs.{lines_of, Ordinary, Ended};
 ghost use Rattle.line.specs.Into.{uncut_into};
+ghost use Rattle.line.specs.Squeezed.{squeeze_of};
 ghost use Rattle.columns.specs.Rows.{row_before, row_after, Apart, Columns};
 
+use line::Squeezed;
 use pair::Pair;
 use tendency::Branching;
 
@@ -149,26 +151,20 @@ fn ordinary_pairs(avg: &[i32], res: &[i32], count: usize, w: usize, out: &mut [i
     from
 }
 
-// The last of n pairs of rows, with the row before it at `from`, and the row of
-// tails.
-fn last_rows<'a>(
-    avg: &'a [i32],
-    res: &[i32],
-    next: &'a [i32],
-    m: usize,
-    n: usize,
-    w: usize,
-    from: usize,
-    out: &mut [i32],
-)
-    requires { Fitting (squeeze false w m n avg.now res.now next.now []) × (0 < n) × (length out.old ≡ w * (m + n)) × Apart from ((n - 1 + (n - 1)) * w) w (length out.old) }
-    ensures { (prev : List ℤ) → Ended (squeeze false w m n avg.now res.now next.now prev) (λ k. get_or out.old (from + k) (pos 0)) out.old out.new (n - 1) }
+// The last pair of rows, with the row before it at `from`, and the row of tails.
+fn last_rows(s: &Squeezed<'_>, w: usize, from: usize, out: &mut [i32])
+    requires { Fitting (squeeze false w s.now.averages s.now.residuals s.now.avg.now s.now.res.now s.now.next.now []) × (0 < s.now.residuals) × (length out.old ≡ w * (s.now.averages + s.now.residuals)) × Apart from ((s.now.residuals - 1 + (s.now.residuals - 1)) * w) w (length out.old) }
+    ensures { (prev : List ℤ) → Ended (squeeze false w s.now.averages s.now.residuals s.now.avg.now s.now.res.now s.now.next.now prev) (λ k. get_or out.old (from + k) (pos 0)) out.old out.new (s.now.residuals - 1) }
 {
+    let avg = s.avg;
+    let res = s.res;
+    let m = s.averages;
+    let n = s.residuals;
     let a = res.len() - w;
     row_pair(
         &avg[a..a + w],
         &res[a..a + w],
-        row_after(avg, next, a, w),
+        row_after(avg, s.next, a, w),
         out,
         from,
         a + a,
@@ -179,46 +175,29 @@ fn last_rows<'a>(
 }
 
 // The columns of a squeeze whose sizes fit, with a sample or more.
-fn unsqueeze_fitting<'a>(
-    avg: &'a [i32],
-    res: &[i32],
-    next: &'a [i32],
-    prev: &'a [i32],
-    m: usize,
-    n: usize,
-    w: usize,
-    out: &mut [i32],
-)
-    requires { Fitting (squeeze false w m n avg.now res.now next.now prev.now) × (0 < m) × (0 < w) × (length out.old ≡ w * (m + n)) }
-    ensures { out.new ≡ uncut (squeeze false w m n avg.now res.now next.now prev.now) }
+fn unsqueeze_fitting(s: &Squeezed<'_>, w: usize, out: &mut [i32])
+    requires { Fitting (squeeze_of false w s.now) × (0 < s.now.averages) × (0 < w) × (length out.old ≡ w * (s.now.averages + s.now.residuals)) }
+    ensures { out.new ≡ uncut (squeeze_of false w s.now) }
 {
+    let n = s.residuals;
     if n == 0 {
-        copy_row(avg, out, 0);
+        copy_row(s.avg, out, 0);
         return;
     }
-    copy_row(row_before(prev, avg, w), out, w);
-    let from = ordinary_pairs(avg, res, n - 1, w, out);
-    last_rows(avg, res, next, m, n, w, from, out);
+    copy_row(row_before(s.prev, s.avg, w), out, w);
+    let from = ordinary_pairs(s.avg, s.res, n - 1, w, out);
+    last_rows(s, w, from, out);
 }
 
-// The output of a vertical squeeze: w columns of m averages and n residuals.
-pub fn unsqueeze_columns<'a>(
-    avg: &'a [i32],
-    res: &[i32],
-    next: &'a [i32],
-    prev: &'a [i32],
-    m: usize,
-    n: usize,
-    w: usize,
-    out: &mut [i32],
-)
-    ensures { out.new ≡ uncut_into (squeeze false w m n avg.now res.now next.now prev.now) out.old }
+// The output of a vertical squeeze of so many columns.
+pub fn unsqueeze_columns(s: &Squeezed<'_>, w: usize, out: &mut [i32])
+    ensures { out.new ≡ uncut_into (squeeze_of false w s.now) out.old }
 {
-    if !line::fits(w, m, n, avg, res, next, prev, out) {
+    if !s.fits(w, out) {
         return;
     }
     if out.len() == 0 {
         return;
     }
-    unsqueeze_fitting(avg, res, next, prev, m, n, w, out);
+    unsqueeze_fitting(s, w, out);
 }

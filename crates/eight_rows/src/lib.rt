@@ -11,9 +11,11 @@ ghost use Rattle.line.specs.Line.{or_else};
 ghost use Rattle.line.specs.Uncut.{squeeze, uncut, Fitting, outer};
 ghost use Rattle.line.specs.Pairs.{lines_of, Ordinary, Ended};
 ghost use Rattle.line.specs.Into.{uncut_into};
+ghost use Rattle.line.specs.Squeezed.{squeeze_of};
 ghost use Rattle.eight_rows.specs.Lanes.{lanes_at, lane, Sized};
 
 use crate::lanes::{load_lanes, store_four, store_lanes};
+use line::Squeezed;
 
 // The eight samples of an outer line, or what stands in for them.
 fn outer_lanes(line: &[i32], other: [i32; 8]) -> [i32; 8]
@@ -174,24 +176,19 @@ fn ordinary_pairs(
     single_pairs(avg, res, before, to / 8 * 8, to, m, n, out)
 }
 
-// The last of n pairs, and the tails.
-fn last_lanes(
-    avg: &[i32],
-    res: &[i32],
-    next: &[i32],
-    prior: [i32; 8],
-    m: usize,
-    n: usize,
-    out: &mut [i32],
-)
-    requires { Fitting (squeeze true 8 m n avg.now res.now next.now []) × (0 < n) × (length out.old ≡ 8 * (m + n)) }
-    ensures { (prev : List ℤ) → Ended (squeeze true 8 m n avg.now res.now next.now prev) (lane prior) out.old out.new (n - 1) }
+// The last pair, and the tails.
+fn last_lanes(s: &Squeezed<'_>, prior: [i32; 8], out: &mut [i32])
+    requires { Fitting (squeeze true 8 s.now.averages s.now.residuals s.now.avg.now s.now.res.now s.now.next.now []) × (0 < s.now.residuals) × (length out.old ≡ 8 * (s.now.averages + s.now.residuals)) }
+    ensures { (prev : List ℤ) → Ended (squeeze true 8 s.now.averages s.now.residuals s.now.avg.now s.now.res.now s.now.next.now prev) (lane prior) out.old out.new (s.now.residuals - 1) }
 {
+    let avg = s.avg;
+    let m = s.averages;
+    let n = s.residuals;
     let size = m + n;
     let i = n - 1;
     let own = load_lanes(avg, i, m);
-    let following = last_next(avg, next, m, n, own);
-    let pairs = block::unsqueeze_block(own, load_lanes(res, i, n), following, prior);
+    let following = last_next(avg, s.next, m, n, own);
+    let pairs = block::unsqueeze_block(own, load_lanes(s.res, i, n), following, prior);
     let firsts = pairs[0];
     let seconds = pairs[1];
     store_lanes(out, i + i, size, firsts);
@@ -202,45 +199,31 @@ fn last_lanes(
 }
 
 // Eight rows of a squeeze whose sizes fit, with an average or more in each.
-fn unsqueeze_fitting(
-    avg: &[i32],
-    res: &[i32],
-    next: &[i32],
-    prev: &[i32],
-    m: usize,
-    n: usize,
-    out: &mut [i32],
-)
-    requires { Fitting (squeeze true 8 m n avg.now res.now next.now prev.now) × (0 < m) × (length out.old ≡ 8 * (m + n)) }
-    ensures { out.new ≡ uncut (squeeze true 8 m n avg.now res.now next.now prev.now) }
+fn unsqueeze_fitting(s: &Squeezed<'_>, out: &mut [i32])
+    requires { Fitting (squeeze_of true 8 s.now) × (0 < s.now.averages) × (length out.old ≡ 8 * (s.now.averages + s.now.residuals)) }
+    ensures { out.new ≡ uncut (squeeze_of true 8 s.now) }
 {
-    let own = load_lanes(avg, 0, m);
+    let m = s.averages;
+    let n = s.residuals;
+    let own = load_lanes(s.avg, 0, m);
     if n == 0 {
         store_lanes(out, 0, m, own);
         return;
     }
-    let prior = outer_lanes(prev, own);
-    let before = ordinary_pairs(avg, res, prior, n - 1, m, n, out);
-    last_lanes(avg, res, next, before, m, n, out);
+    let prior = outer_lanes(s.prev, own);
+    let before = ordinary_pairs(s.avg, s.res, prior, n - 1, m, n, out);
+    last_lanes(s, before, out);
 }
 
-// The output of a horizontal squeeze of eight rows of m averages and n residuals.
-pub fn unsqueeze_eight_rows(
-    avg: &[i32],
-    res: &[i32],
-    next: &[i32],
-    prev: &[i32],
-    m: usize,
-    n: usize,
-    out: &mut [i32],
-)
-    ensures { out.new ≡ uncut_into (squeeze true 8 m n avg.now res.now next.now prev.now) out.old }
+// The output of a horizontal squeeze of eight rows.
+pub fn unsqueeze_eight_rows(s: &Squeezed<'_>, out: &mut [i32])
+    ensures { out.new ≡ uncut_into (squeeze_of true 8 s.now) out.old }
 {
-    if !line::fits(8, m, n, avg, res, next, prev, out) {
+    if !s.fits(8, out) {
         return;
     }
-    if m == 0 {
+    if s.averages == 0 {
         return;
     }
-    unsqueeze_fitting(avg, res, next, prev, m, n, out);
+    unsqueeze_fitting(s, out);
 }

@@ -2,7 +2,7 @@
 -- direction. So `uncut_into` is the uncut squeeze where sizes fit, and what was there where they do not. Assumes nothing.
 use mathlib.Core.Path.{◌≡◌, refl, sym, ap, subst, ◌∙◌}
 use mathlib.Core.Bool.{Bool, true, false, ◌&&◌, ◌||◌}
-use mathlib.Core.List.{List, []}
+use mathlib.Core.List.{List}
 use mathlib.Core.Logic.{◌⊎◌, inl, inr}
 use Prim.Native.Nat.{ℕ, ◌+◌, ◌*◌, ◌<◌, ◌≤◌}
 use native.Mathlib.Omega.{arith}
@@ -101,18 +101,6 @@ module _ (lines m n : ℕ) (avg res next prev out : List ℤ) where
 
 -- ---- sizes that fit
 module _ {horizontal : Bool} {lines m n : ℕ} {avg res next prev : List ℤ} (fitting : Fitting (squeeze horizontal lines m n avg res next prev)) where
-  -- they fit without a previous line too
-  pub without_previous : Fitting (squeeze horizontal lines m n avg res next [])
-  without_previous =
-      record {
-        low = fitting.low;
-        high = fitting.high;
-        avg_length = fitting.avg_length;
-        res_length = fitting.res_length;
-        next_length = fitting.next_length;
-        prev_length = inl refl;
-      }
-
   -- where there is a sample there are lines, and an average in each
   module _ (out : List ℤ) (long : length out ≡ lines * (m + n)) (some : length out ≡ 0 → ⊥) where
     pub some_averages : 0 < m
@@ -128,6 +116,11 @@ module _ {horizontal : Bool} {lines m n : ℕ} {avg res next prev : List ℤ} (f
         by_order : (0 < lines) ⊎ (lines ≤ 0) → 0 < lines
         by_order (inl l) = l
         by_order (inr g) = let z : lines ≡ 0 = omega arith in absurd (some (long ∙ ap (λ (x : ℕ). x * (m + n)) z ∙ omega arith))
+
+-- the two of a squeeze
+pub fitted : (s : Squeeze) (out : List ℤ) → fits s.lines s.averages s.residuals s.avg s.res s.next s.prev out ≡ true
+    → Fitting s × (length out ≡ s.lines * (s.averages + s.residuals))
+fitted s out e = fits_fitting s.lines s.averages s.residuals s.avg s.res s.next s.prev out s.horizontal e
 
 -- ---- the slice afterwards
 pub into_fits : (s : Squeeze) (out : List ℤ) → fits s.lines s.averages s.residuals s.avg s.res s.next s.prev out ≡ true

@@ -4,3 +4,4 @@ pub mod Forward
 pub mod Pairs
 pub mod Into
 pub mod Plain
+pub mod Squeezed

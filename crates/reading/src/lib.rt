@@ -8,7 +8,8 @@ use std::io;
 use std::io::Read;
 
 // Reads until `room` is full or the input ends; how many bytes it puts at the
-// start of `room`.
+// start of `room`. A loop of its own, over what each read gives: `read_exact` does
+// not say how many bytes there were where the input ends.
 pub fn read_full<R: Read>(input: &mut R, room: &mut [u8]) -> io::Result<usize>
     ensures room { IfOk result (λ n. n ≤ length room.new) }
     ensures bytes { IfOk result (λ n. Consumes (R.remaining input.old) (R.remaining input.new) (take n room.new)) }

@@ -5,6 +5,7 @@ ghost use Rattle.line.specs.Line.{or_else};
 ghost use Rattle.line.specs.Uncut.{squeeze, uncut, Fitting, outer};
 ghost use Rattle.line.specs.Pairs.{lines_of, Ordinary, Ended};
 
+use line::Squeezed;
 use pair::Pair;
 use tendency::Branching;
 
@@ -48,16 +49,18 @@ fn ordinary_pairs(avg: &[i32], res: &[i32], prior: i32, to: usize, out: &mut [i3
 }
 
 // The last pair, and the tail.
-fn last_samples(avg: &[i32], res: &[i32], next: &[i32], prior: i32, out: &mut [i32])
-    requires { (0 < length res.now) × (length res.now ≤ length avg.now) × (length avg.now ≤ length res.now + 1) × (length out.old ≡ length avg.now + length res.now) }
-    ensures { (prev : List ℤ) → Ended (squeeze true 1 (length avg.now) (length res.now) avg.now res.now next.now prev) (λ _. prior) out.old out.new (length res.now - 1) }
+fn last_samples(s: &Squeezed<'_>, prior: i32, out: &mut [i32])
+    requires { (0 < length s.now.res.now) × (length s.now.res.now ≤ length s.now.avg.now) × (length s.now.avg.now ≤ length s.now.res.now + 1) × (length out.old ≡ length s.now.avg.now + length s.now.res.now) }
+    ensures { (prev : List ℤ) → Ended (squeeze true 1 (length s.now.avg.now) (length s.now.res.now) s.now.avg.now s.now.res.now s.now.next.now prev) (λ _. prior) out.old out.new (length s.now.res.now - 1) }
 {
+    let avg = s.avg;
+    let res = s.res;
     let n = res.len();
     let i = n - 1;
     let Pair { first, second } = pair::unsqueeze::<Branching>(
         avg[i],
         res[i],
-        last_next(avg, next, n),
+        last_next(avg, s.next, n),
         prior,
     );
     out[i + i] = first;
@@ -67,16 +70,18 @@ fn last_samples(avg: &[i32], res: &[i32], next: &[i32], prior: i32, out: &mut [i
     }
 }
 
-// One row of averages and residuals.
-pub(crate) fn one_row(avg: &[i32], res: &[i32], next: &[i32], prev: &[i32], out: &mut [i32])
-    requires { Fitting (squeeze true 1 (length avg.now) (length res.now) avg.now res.now next.now prev.now) × (0 < length avg.now) × (length out.old ≡ length avg.now + length res.now) }
-    ensures { out.new ≡ uncut (squeeze true 1 (length avg.now) (length res.now) avg.now res.now next.now prev.now) }
+// One row, of so many averages and residuals as its slices have.
+pub(crate) fn one_row(s: &Squeezed<'_>, out: &mut [i32])
+    requires { Fitting (squeeze true 1 (length s.now.avg.now) (length s.now.res.now) s.now.avg.now s.now.res.now s.now.next.now s.now.prev.now) × (0 < length s.now.avg.now) × (length out.old ≡ length s.now.avg.now + length s.now.res.now) }
+    ensures { out.new ≡ uncut (squeeze true 1 (length s.now.avg.now) (length s.now.res.now) s.now.avg.now s.now.res.now s.now.next.now s.now.prev.now) }
 {
+    let avg = s.avg;
+    let res = s.res;
     let n = res.len();
     if n == 0 {
         out[0] = avg[0];
         return;
     }
-    let before = ordinary_pairs(avg, res, outer_sample(prev, avg[0]), n - 1, out);
-    last_samples(avg, res, next, before, out);
+    let before = ordinary_pairs(avg, res, outer_sample(s.prev, avg[0]), n - 1, out);
+    last_samples(s, before, out);
 }

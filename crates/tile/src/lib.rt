@@ -9,6 +9,7 @@ ghost use Rattle.line.specs.Into.{uncut_into};
 ghost use Rattle.numbers.specs.Numbers.{answer_of};
 ghost use Rattle.tile.specs.Call as Call;
 
+use line::Squeezed;
 use numbers::{MAX_SAMPLES, MAX_SIDE, Refusal};
 
 // Width and height of a rectangle.
@@ -71,23 +72,32 @@ fn unsqueeze<'a>(
     a: Sides,
     r: Sides,
     avg: &'a [i32],
-    res: &[i32],
+    res: &'a [i32],
     next: &'a [i32],
     prev: &'a [i32],
     out: &mut [i32],
 )
     ensures { out.new ≡ uncut_into (Call.squeeze_on horizontal a r avg.now res.now next.now prev.now) out.old }
 {
+    let s = Squeezed {
+        averages: a.along(horizontal),
+        residuals: r.along(horizontal),
+        avg,
+        res,
+        next,
+        prev,
+    };
+    let lines = a.across(horizontal);
     if horizontal {
-        rows::unsqueeze_rows(avg, res, next, prev, a.width, r.width, a.height, out);
+        rows::unsqueeze_rows(&s, lines, out);
     } else {
-        columns::unsqueeze_columns(avg, res, next, prev, a.height, r.height, a.width, out);
+        columns::unsqueeze_columns(&s, lines, out);
     }
 }
 
 // A tile of averages, residuals and samples of output, each with the sides of its
 // rectangle. `next` and `prev` are the next average line and the previous output
-// line, or empty.
+// line, or empty. Sides and slices come apart, as the C function has them.
 pub fn squeeze_tile<'a>(
     horizontal: bool,
     avgs: Sides,

@@ -3,17 +3,10 @@
 use mathlib.Core.Path.{◌≡◌, ◌∙◌}
 use Prim.Native.Nat.{ℕ, ◌+◌, ◌-◌, ◌<◌, ◌≤◌}
 use native.Mathlib.Omega.{arith}
-use lib.ListN.{length, take, drop}
-use Rattle.columns.specs.Rows.{row_after, Columns}
+use lib.ListN.{length}
 use Rattle.columns.proofs.OuterRows.{part_rest}
 use Rattle.columns.proofs.LastRows.{last_row_inside, residuals_inside, after_room, last_asked, ended_even, ended_odd}
 use Rattle.columns.proofs.last_rows.Goals as goal
-use Rattle.columns.proofs.last_rows.Lts as Lts
-use Rattle.columns.proofs.last_rows.Reads as reads
-use Rattle.columns.proofs.last_rows.Tie as tie
-
-abbrev After-out-1 : Type 0
-After-out-1 = Lts.After-out tie.the-claims reads.Pre reads.Post
 
 -- the last pair's rows end where the residuals end
 placed : (n w : ℕ) → w ≤ n → n - w + w ≡ n
@@ -22,46 +15,38 @@ placed n w l = omega arith
 counted : (n : ℕ) → 0 < n → n - 1 + 1 ≡ n
 counted n l = omega arith
 
--- what the last pair of rows is made of
-made : (c : After-out-1)
-    → let a = c.args in
-    let x = length a.res.now - a.w in
-    let row = take a.w (drop x a.avg.now) in
-    Columns row (take a.w (drop x a.res.now)) (row_after a.avg.now a.next.now x a.w)
-    a.out.now c.row_pair.new.out a.from (x + x) 0 (length row)
-made c =
-    let a = c.args in
-    let x = length a.res.now - a.w in
-    let z : x + a.w - x ≡ a.w = omega arith in
-    rw (z, c.row_after.ensures) at c.row_pair.ensures
-
 pub row_after-requires : goal.row_after-requires
 row_after-requires c =
     let a = c.args in
     let r = last_row_inside c.requires.0 c.requires.1 in
-    let x = length a.res.now - a.w in
-    (omega (arith, r, residuals_inside c.requires.0), after_room c.requires.0 x (placed (length a.res.now) a.w r), c.requires.0.next_length)
+    let x = length a.s.now.res.now - a.w in
+    (omega (arith, r, residuals_inside c.requires.0), after_room c.requires.0 x (placed (length a.s.now.res.now) a.w r), c.requires.0.next_length)
 
 pub row_pair-requires : goal.row_pair-requires
 row_pair-requires c =
     let a = c.args in
-    let p = placed (length a.res.now) a.w (last_row_inside c.requires.0 c.requires.1) in
-    let x = length a.res.now - a.w in
+    let p = placed (length a.s.now.res.now) a.w (last_row_inside c.requires.0 c.requires.1) in
+    let x = length a.s.now.res.now - a.w in
     let z : x + a.w - x ≡ a.w = omega arith in
     rw (z, c.row_after.ensures)
-    (last_asked c.requires.0 (a.n - 1) x (counted a.n c.requires.1) p c.requires.3)
+    (last_asked c.requires.0 (a.s.now.residuals - 1) x (counted a.s.now.residuals c.requires.1) p c.requires.3)
 
 pub returns-then-n-m : goal.returns-then-n-m
 returns-then-n-m c prev =
     let a = c.args in
-    let p = placed (length a.res.now) a.w (last_row_inside c.requires.0 c.requires.1) in
-    let m = made c.before.before.before.before.before in
-    let tail = rw (part_rest a.avg.now (length a.res.now)) at c.copy_row.ensures in
+    let p = placed (length a.s.now.res.now) a.w (last_row_inside c.requires.0 c.requires.1) in
+    let x = length a.s.now.res.now - a.w in
+    let z : x + a.w - x ≡ a.w = omega arith in
+    let made = rw (z, c.row_after.ensures) at c.row_pair.ensures in
+    let tail = rw (part_rest a.s.now.avg.now (length a.s.now.res.now)) at c.copy_row.ensures in
     rw tail
-    (ended_odd c.requires.0 (a.n - 1) (length a.res.now - a.w) (counted a.n c.requires.1) p m prev c.if-n-m.true (m.long ∙ c.requires.2))
+    (ended_odd c.requires.0 (a.s.now.residuals - 1) (length a.s.now.res.now - a.w) (counted a.s.now.residuals c.requires.1) p made prev c.if-n-m.true (made.long ∙ c.requires.2))
 
 pub returns-else-n-m : goal.returns-else-n-m
 returns-else-n-m c prev =
     let a = c.args in
-    let p = placed (length a.res.now) a.w (last_row_inside c.requires.0 c.requires.1) in
-    ended_even c.requires.0 (a.n - 1) (length a.res.now - a.w) (counted a.n c.requires.1) p (made c.before) prev c.if-n-m.false
+    let p = placed (length a.s.now.res.now) a.w (last_row_inside c.requires.0 c.requires.1) in
+    let x = length a.s.now.res.now - a.w in
+    let z : x + a.w - x ≡ a.w = omega arith in
+    let made = rw (z, c.row_after.ensures) at c.row_pair.ensures in
+    ended_even c.requires.0 (a.s.now.residuals - 1) (length a.s.now.res.now - a.w) (counted a.s.now.residuals c.requires.1) p made prev c.if-n-m.false

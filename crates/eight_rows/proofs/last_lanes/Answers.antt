@@ -12,13 +12,13 @@ pub returns-then-n-m : goal.returns-then-n-m
 returns-then-n-m c =
     λ prev.
     let a = c.args in
-    let i = a.n - 1 in
+    let i = a.s.now.residuals - 1 in
     -- blocks of eight
     let next_eight : length c.last_next-following.result ≡ 8 = search rules in
     let prior_eight : length a.prior ≡ 8 = search rules in
-    let e : a.n - 1 + (a.n - 1) + 2 ≡ a.n + a.n = omega arith in
+    let e : a.s.now.residuals - 1 + (a.s.now.residuals - 1) + 2 ≡ a.s.now.residuals + a.s.now.residuals = omega arith in
     rw (c.store_lanes-then-n-m.ensures, c.store_lanes-2.ensures, c.store_lanes.ensures)
-    (block_end_tail a.m a.n a.avg.now a.res.now a.next.now prev c.load_lanes-own.result c.load_lanes.result c.last_next-following.result
+    (block_end_tail a.s.now.averages a.s.now.residuals a.s.now.avg.now a.s.now.res.now a.s.now.next.now prev c.load_lanes-own.result c.load_lanes.result c.last_next-following.result
     a.prior a.out.now _ _ i (omega arith) c.requires.0.low next_eight prior_eight c.load_lanes-own.ensures c.load_lanes.ensures
     c.requires.2 c.last_next-following.ensures (rw c.unsqueeze_block-pairs.ensures) (rw c.unsqueeze_block-pairs.ensures)
     _ c.if-n-m.true c.load_lanes-then-n-m.ensures)
@@ -27,12 +27,12 @@ pub returns-else-n-m : goal.returns-else-n-m
 returns-else-n-m c =
     λ prev.
     let a = c.args in
-    let i = a.n - 1 in
+    let i = a.s.now.residuals - 1 in
     -- blocks of eight
     let next_eight : length c.last_next-following.result ≡ 8 = search rules in
     let prior_eight : length a.prior ≡ 8 = search rules in
     rw (c.store_lanes-2.ensures, c.store_lanes.ensures)
-    (block_end a.m a.n a.avg.now a.res.now a.next.now prev c.load_lanes-own.result c.load_lanes.result c.last_next-following.result
+    (block_end a.s.now.averages a.s.now.residuals a.s.now.avg.now a.s.now.res.now a.s.now.next.now prev c.load_lanes-own.result c.load_lanes.result c.last_next-following.result
     a.prior a.out.now _ _ i (omega arith) c.requires.0.low next_eight prior_eight c.load_lanes-own.ensures c.load_lanes.ensures
     c.requires.2 c.last_next-following.ensures (rw c.unsqueeze_block-pairs.ensures) (rw c.unsqueeze_block-pairs.ensures)
     c.if-n-m.false)

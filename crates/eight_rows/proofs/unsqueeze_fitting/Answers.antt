@@ -11,21 +11,21 @@ pub returns-then-n-eq0 : goal.returns-then-n-eq0
 returns-then-n-eq0 c =
     let a = c.args in
     let own = c.load_lanes-own in
-    let l = lanes_put_length a.out.now 0 a.m own.result in
+    let l = lanes_put_length a.out.now 0 a.s.now.averages own.result in
     rw c.store_lanes.ensures
     (copied c.requires.0 c.if-n-eq0.true (omega arith)
     (λ k hk _.
-    let z : a.m + a.n ≡ a.m = omega arith in
-    let p : k * a.m + 0 ≡ 0 + k * a.m = omega arith in
+    let z : a.s.now.averages + a.s.now.residuals ≡ a.s.now.averages = omega arith in
+    let p : k * a.s.now.averages + 0 ≡ 0 + k * a.s.now.averages = omega arith in
     rw (z, p)
-    (lanes_put_on a.out.now 0 a.m own.result k c.requires.1 (omega arith) hk
-    ∙ rw own.ensures (lanes_at_lem a.avg.now 0 a.m k hk))))
+    (lanes_put_on a.out.now 0 a.s.now.averages own.result k c.requires.1 (omega arith) hk
+    ∙ rw own.ensures (lanes_at_lem a.s.now.avg.now 0 a.s.now.averages k hk))))
 
 pub returns : goal.returns
 returns c =
     let a = c.args in
     put_together c.requires.0 c.requires.2
-    (block_before a.m a.n a.avg.now a.res.now a.next.now a.prev.now c.load_lanes-own.result c.outer_lanes-prior.result
+    (block_before a.s.now.averages a.s.now.residuals a.s.now.avg.now a.s.now.res.now a.s.now.next.now a.s.now.prev.now c.load_lanes-own.result c.outer_lanes-prior.result
     c.load_lanes-own.ensures c.outer_lanes-prior.ensures)
     c.ordinary_pairs-before.ensures
-    (c.last_lanes.ensures a.prev.now)
+    (c.last_lanes.ensures a.s.now.prev.now)

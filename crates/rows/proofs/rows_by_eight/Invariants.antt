@@ -2,12 +2,13 @@
 -- a strip of eight rows (proofs/Strips.antt). The measure is the rows that are left. Assumes nothing.
 use mathlib.Core.Bool.{true}
 use Prim.Native.Nat.{◌+◌, ◌-◌, ◌*◌}
-use Rattle.line.specs.Uncut.{squeeze, uncut}
+use Rattle.line.specs.Uncut.{uncut}
+use Rattle.line.specs.Squeezed.{squeeze_of}
 use Rattle.rows.proofs.Bands.{Down}
 use Rattle.rows.proofs.rows_by_eight.Given as goal
 
 abbrev pub invariant-loop-k : goal.invariant-loop-k
-invariant-loop-k l = Down l.lines (l.m + l.n) (uncut (squeeze true l.lines l.m l.n l.avg l.res l.next l.prev)) l.initial.out l.out (8 * l.k)
+invariant-loop-k l = Down l.lines (l.s.averages + l.s.residuals) (uncut (squeeze_of true l.lines l.s)) l.initial.out l.out (8 * l.k)
 
 abbrev pub decreases-loop-k : goal.decreases-loop-k
 decreases-loop-k l = l.k-end - l.k

@@ -2,13 +2,14 @@
 -- `Down` of proofs/Bands.antt). A turn writes a strip of one row (proofs/Strips.antt). The measure is the rows that are left. Assumes nothing.
 use mathlib.Core.Bool.{true}
 use Prim.Native.Nat.{◌+◌, ◌-◌, ◌*◌}
-use Rattle.line.specs.Uncut.{squeeze, uncut}
+use Rattle.line.specs.Uncut.{uncut}
+use Rattle.line.specs.Squeezed.{squeeze_of}
 use Rattle.rows.proofs.Bands.{Down, patch}
 use Rattle.rows.proofs.rows_singly.Given as goal
 
 abbrev pub invariant-loop-y : goal.invariant-loop-y
 invariant-loop-y l =
-    Down l.lines (l.m + l.n) (patch l.initial.out (uncut (squeeze true l.lines l.m l.n l.avg l.res l.next l.prev)) (l.from * (l.m + l.n))) l.initial.out l.out l.y
+    Down l.lines (l.s.averages + l.s.residuals) (patch l.initial.out (uncut (squeeze_of true l.lines l.s)) (l.from * (l.s.averages + l.s.residuals))) l.initial.out l.out l.y
 
 abbrev pub decreases-loop-y : goal.decreases-loop-y
 decreases-loop-y l = l.lines - l.y

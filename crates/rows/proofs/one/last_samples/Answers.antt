@@ -17,16 +17,16 @@ returns-then-n-avg c =
     let pair = c.unsqueeze-first in
     let next = c.last_next in
     let a = c.args in
-    let i = length a.res.now - 1 in
-    let b1 = back32 (get_or a.avg.now i (pos 0)) (search rules) in
-    let b2 = back32 (get_or a.res.now i (pos 0)) (search rules) in
+    let i = length a.s.now.res.now - 1 in
+    let b1 = back32 (get_or a.s.now.avg.now i (pos 0)) (search rules) in
+    let b2 = back32 (get_or a.s.now.res.now i (pos 0)) (search rules) in
     let b3 = back32 next.result next.type_inv in
     let b4 = to_z-of_z c.ranges.prior in
-    row_end_tail (length a.avg.now) (length a.res.now) a.avg.now a.res.now a.next.now prev a.out.now next.result a.prior _ _ i
+    row_end_tail (length a.s.now.avg.now) (length a.s.now.res.now) a.s.now.avg.now a.s.now.res.now a.s.now.next.now prev a.out.now next.result a.prior _ _ i
     (omega arith) c.requires.1 c.requires.3 next.ensures
     (back32 pair.result.first (search rules) ∙ rw (b1, b2, b3, b4) at pair.ensures.0)
     (back32 pair.result.second (search rules) ∙ rw (b1, b2, b3, b4) at pair.ensures.1)
-    _ c.if-n-avg.true (back32 (get_or a.avg.now (length a.res.now) (pos 0)) (search rules))
+    _ c.if-n-avg.true (back32 (get_or a.s.now.avg.now (length a.s.now.res.now) (pos 0)) (search rules))
 
 pub returns-else-n-avg : goal.returns-else-n-avg
 returns-else-n-avg c =
@@ -34,12 +34,12 @@ returns-else-n-avg c =
     let pair = c.unsqueeze-first in
     let next = c.last_next in
     let a = c.args in
-    let i = length a.res.now - 1 in
-    let b1 = back32 (get_or a.avg.now i (pos 0)) (search rules) in
-    let b2 = back32 (get_or a.res.now i (pos 0)) (search rules) in
+    let i = length a.s.now.res.now - 1 in
+    let b1 = back32 (get_or a.s.now.avg.now i (pos 0)) (search rules) in
+    let b2 = back32 (get_or a.s.now.res.now i (pos 0)) (search rules) in
     let b3 = back32 next.result next.type_inv in
     let b4 = to_z-of_z c.ranges.prior in
-    row_end (length a.avg.now) (length a.res.now) a.avg.now a.res.now a.next.now prev a.out.now next.result a.prior _ _ i
+    row_end (length a.s.now.avg.now) (length a.s.now.res.now) a.s.now.avg.now a.s.now.res.now a.s.now.next.now prev a.out.now next.result a.prior _ _ i
     (omega arith) c.requires.1 c.requires.3 next.ensures
     (back32 pair.result.first (search rules) ∙ rw (b1, b2, b3, b4) at pair.ensures.0)
     (back32 pair.result.second (search rules) ∙ rw (b1, b2, b3, b4) at pair.ensures.1)
