@@ -17,7 +17,8 @@ use channel::Channel;
 use numbers::Refusal;
 
 // The arrays lie flat, each with its unused entries: a rule of the project, so that a
-// list takes fixed memory and no heap.
+// list takes fixed memory and no heap. `count` may be any number, since question 3
+// is put to it: an invariant that bounds it would ask more of callers.
 #[derive(Clone, Copy, PartialEq, Eq, Debug)]
 pub struct ChannelList {
     pub count: usize,

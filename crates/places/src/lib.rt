@@ -155,7 +155,8 @@ impl Places {
         places
     }
 
-    // The same in place of these: no array is made or copied.
+    // The same in place of these: no array is made or copied. The sides are read from
+    // the list's arrays: `channel(k)` would read the shifts too.
     pub fn reset(&mut self, list: &ChannelList)
         ensures { Spec.places_in self.new ≡ Spec.places_from 0 (channels list.now) }
     {
@@ -199,7 +200,8 @@ impl Places {
         starts
     }
 
-    // Where the residuals of a step start.
+    // Where the residuals of a step start. Not the list's own function: a list of more
+    // channels than the limit counts as one of the limit there.
     pub fn residuals_at(&self, step: Step) -> usize
         ensures { result ≡ Spec.residuals_at self.now.count step }
     {

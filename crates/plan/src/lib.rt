@@ -189,7 +189,8 @@ fn lowered(stop: u32, side: u32) -> u32
 }
 
 // The turns of the default plan after the steps: in-place steps on all other channels
-// while a side of the first is above `stop`.
+// while a side of the first is above `stop`. A `while`, as only the sides say when it
+// ends: it counts nothing.
 fn rounds(steps: &mut Steps, stop: u32, others: Others)
     requires { (1 ≤ stop) × (steps.old.count + length (Default.rounds (others.width + others.height) stop others.begin others.number others.width others.height) ≤ max_steps) }
     ensures { steps.new ≡ appended steps.old (Default.rounds (others.width + others.height) stop others.begin others.number others.width others.height) }

@@ -201,7 +201,7 @@ fn field_step(bytes: &[u8]) -> Step
 
 // What the fields of a record with the given version hold, each judged before the
 // next. `metas` says whether all channels so far are meta: meta channels stand
-// first, so the last one tells.
+// first, so the last one tells. A `while`: each field says where the next begins.
 fn read_fields(version: u32, bytes: &[u8]) -> Result<Form, Refusal>
     ensures { Told.record_told result ≡ Spec.packed_form (Reading.fields_of version bytes.now) }
 {

@@ -64,7 +64,8 @@ fn lists_nothing(bytes: &[u8], n: usize, m: usize, refusal: Refusal) -> Option<b
     Some((found == Err(refusal)) & (size == [MARKED; 2]) & holds(&room, b""))
 }
 
-// Whether `text` is the line of a refusal: `refused` and its number.
+// Whether `text` is the line of a refusal: `refused` and its number, whose digits are
+// put together here, so that the listing's own are not asked about themselves.
 fn is_refusal(text: &[u8], refusal: Refusal) -> bool {
     let number = refusal.number();
     let digits = [b'0' + (number / 10 % 10) as u8, b'0' + (number % 10) as u8];
@@ -270,7 +271,8 @@ fn prints(input: &[u8], text: &[u8]) -> bool {
 }
 
 // Replays the cases of the next kind, three slices each (a record or an input, its text
-// and its layout's rows), and says how many of them `agrees` finds right.
+// and its layout's rows), and says how many of them `agrees` finds right. Not
+// `replay::kind`, whose cases are one slice each.
 fn kind<R: Read, F: Fn(&[u8], &[u8], &[u8]) -> bool>(
     rt: &impl Print,
     input: &mut R,

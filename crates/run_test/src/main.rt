@@ -121,8 +121,9 @@ fn untouched(room: &[i32; ROOM], n: u32) -> bool {
     kept(room, 0, GUARD + n as usize + GUARD)
 }
 
-// A case one way: the answer that the call must give, the lengths that are right, the
-// record, and the samples that are read and those that are expected, as bytes.
+// A case one way: the answer that the call must give, a number as the file has it, the
+// lengths that are right, the record, and the samples that are read and those that are
+// expected, as bytes.
 #[derive(Clone, Copy)]
 struct Run<'a> {
     answer: u32,

@@ -25,7 +25,8 @@ const ROOM: usize = 1024;
 // Samples before and after the lent output, at least.
 const GUARD: usize = 16;
 
-// The head of a case, in this order: numbers of four bytes each, sides of eight.
+// The head of a case, in this order: numbers of four bytes each, sides of eight. The
+// answer is the number that the file has, 0 where the tile is accepted.
 #[derive(Clone, Copy)]
 struct Head {
     answer: u32,
