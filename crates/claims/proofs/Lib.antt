@@ -5,3 +5,6 @@ pub mod Strips
 pub mod House
 pub mod Origins
 pub mod Wrong
+pub mod Signs
+pub mod Chosen
+pub mod Stretches

@@ -1,9 +1,8 @@
 // Vertical: lines are columns, and the work goes row by row, so that memory is
 // read and written in order: eight neighbouring samples at a time as one block,
 // the rest singly. The rows of ordinary pairs first, then the last pair, whose
-// next row is chosen, and the row of tails. The rows of a pair come singly: a struct
-// of them would be no plainer, as each contract would still say that they are of one
-// length. Total: where sizes or slices do not fit the output stays as it was.
+// next row is chosen, and the row of tails. Total: where sizes or slices do not
+// fit the output stays as it was.
 #![tactic(auto)]
 
 ghost use Rattle.std.specs.Prelude.{◌≡◌, false, List, [], ◌⊎◌, ◌+◌, ◌-◌, ◌*◌, ◌<◌, ◌≤◌, ℤ, pos, length, get_or, take, drop};

@@ -1,9 +1,7 @@
 // Eight rows at a time, each lane of a block in a row of its own. The ordinary
 // pairs first, eight at a time while there are so many, the rest one by one;
-// then the last pair, whose next averages are chosen, and the tails. Ordinary
-// pairs take the slices singly: they read no outer lines, and a part of the
-// residuals stands in for them. Total: where sizes or slices do not fit the
-// output stays as it was.
+// then the last pair, whose next averages are chosen, and the tails. Total:
+// where sizes or slices do not fit the output stays as it was.
 #![tactic(auto)]
 
 mod lanes;

@@ -40,8 +40,7 @@ fn channel_numbers(c: Channel) -> [u32; CHANNEL_NUMBERS]
     [c.width, c.height, c.hshift as u32, c.vshift as u32]
 }
 
-// `numbers` over `out` from `at` on. Not one with the record's `put_bytes`, which any
-// crate may call and which so asks nothing and tests its room.
+// `numbers` over `out` from `at` on.
 fn put_numbers(numbers: &[u32], at: usize, out: &mut [u32])
     requires { at + length numbers.now ≤ length out.old }
     ensures { out.new ≡ placed out.old at numbers.now }
@@ -49,8 +48,6 @@ fn put_numbers(numbers: &[u32], at: usize, out: &mut [u32])
     out[at..at + numbers.len()].copy_from_slice(numbers);
 }
 
-// Not one function with `put_channels`: a trait for what the two put, with its law,
-// would be longer than both.
 fn put_steps(steps: &Steps, out: &mut [u32])
     requires { (steps.now.count ≤ max_steps) × (length (Spec.all_steps (StepsSpec.steps steps.now)) ≤ length out.old) }
     ensures { out.new ≡ Spec.over (Spec.all_steps (StepsSpec.steps steps.now)) out.old }

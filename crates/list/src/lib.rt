@@ -16,9 +16,10 @@ ghost use Rattle.list.specs.Accepted.{StepAccepted};
 use channel::Channel;
 use numbers::Refusal;
 
-// The arrays lie flat, each with its unused entries: a rule of the project, so that a
-// list takes fixed memory and no heap. `count` may be any number, since question 3
-// is put to it: an invariant that bounds it would ask more of callers.
+// The arrays lie flat, each with its unused entries: a rule of the project ("A list
+// starts as flat [0; 256] arrays"), and fixed memory without a heap. `count` may be
+// any number, since question 3 is put to it: an invariant that bounds it would ask
+// more of callers.
 #[derive(Clone, Copy, PartialEq, Eq, Debug)]
 pub struct ChannelList {
     pub count: usize,
@@ -36,6 +37,19 @@ pub struct Step {
     pub inplace: bool,
     pub begin: u16,
     pub number: u16,
+}
+
+impl Step {
+    // Where its residuals start in the list that it leaves of one of `count` channels.
+    pub fn residuals_at(self, count: usize) -> usize
+        ensures { result ≡ cond self.inplace (self.begin + self.number) count }
+    {
+        if self.inplace {
+            self.begin as usize + self.number as usize
+        } else {
+            count
+        }
+    }
 }
 
 // The channel with another side in the step's direction.
@@ -295,25 +309,15 @@ impl ChannelList {
         Ok(())
     }
 
-    // Where the residuals start in the list that a step leaves.
-    fn residuals_at(&self, step: Step) -> usize
-        ensures { result ≡ cond step.inplace (step.begin + step.number) (min self.now.count Lists.max_channels) }
-    {
-        if step.inplace {
-            step.begin as usize + step.number as usize
-        } else {
-            self.len()
-        }
-    }
-
     // The list that a step leaves: each channel has the origin of the one that it is
     // made of.
     fn next_list(&self, step: Step) -> ChannelList
         requires { StepAccepted step (Lists.channels self.now) }
         ensures { result ≡ Lists.next_list step self.now }
     {
-        let residuals = self.residuals_at(step);
-        let after = self.len() + step.number as usize;
+        let count = self.len();
+        let residuals = step.residuals_at(count);
+        let after = count + step.number as usize;
         let mut next = ChannelList::empty();
         for k in 0..after {
             let j = source(step, residuals, k);

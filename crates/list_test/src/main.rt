@@ -177,7 +177,8 @@ fn kind<R: Read, F: Fn(&[u8]) -> bool>(
     requires { F.IsAlwaysCallable agrees }
 {
     let mut space = [0u8; CASE];
-    replay::kind(rt, input, name, &mut space, agrees)
+    let tally = replay::count(input, &mut space, agrees)?;
+    replay::say(rt, name, tally.cases, tally.right)
 }
 
 fn main(rt: HostRuntime) -> io::Result<()> {

@@ -113,7 +113,8 @@ impl Place {
     }
 }
 
-// The places of a list's channels: the first `count` of the array.
+// The places of a list's channels: the first `count` of the array, which takes fixed
+// memory and no heap.
 #[derive(Clone, Copy)]
 pub struct Places {
     pub count: usize,
@@ -200,16 +201,11 @@ impl Places {
         starts
     }
 
-    // Where the residuals of a step start. Not the list's own function: a list of more
-    // channels than the limit counts as one of the limit there.
+    // Where the residuals of a step start.
     pub fn residuals_at(&self, step: Step) -> usize
         ensures { result ≡ Spec.residuals_at self.now.count step }
     {
-        if step.inplace {
-            step.begin as usize + step.number as usize
-        } else {
-            self.count
-        }
+        step.residuals_at(self.count)
     }
 
     // Whether a step's range lies inside and there is room for its residuals.

@@ -20,8 +20,8 @@ use channel::Channel;
 use list::{ChannelList, Step, halved};
 use numbers::Refusal;
 
-// The arrays lie flat, as those of the list: fixed memory and no heap. A step's flags
-// keep their eight bits, so that a plan can carry what question 4 refuses.
+// The arrays lie flat by the rule for the list's: fixed memory and no heap. A step's
+// flags keep their eight bits, so that a plan can carry what question 4 refuses.
 #[derive(Clone, Copy, PartialEq, Eq, Debug)]
 pub struct Steps {
     pub count: usize,

@@ -131,7 +131,8 @@ fn make_channel(
     }
 }
 
-// Where the channels of a list lie while its steps are taken back.
+// Where the channels of a list lie while its steps are taken back: as many of the array
+// as there are places, in fixed memory and no heap.
 #[derive(Drop)]
 struct Sources {
     entries: [Source; 256],

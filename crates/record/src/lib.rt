@@ -394,8 +394,8 @@ fn write_channels(list: &ChannelList, start: usize, out: &mut [u8])
     }
 }
 
-// The steps' fields, from `start` on. Not one function with `write_channels`: a trait
-// for what the two loops put, with its law, would be longer than both.
+// The steps' fields, from `start` on. Not one function with `write_channels`, whose
+// fields differ in length, so that each says where it ends.
 fn write_steps(steps: &Steps, start: usize, out: &mut [u8])
     requires { (steps.now.count ≤ max_steps) × (start + length (Bytes.step_fields (StepsSpec.steps steps.now)) ≤ length out.old) }
     ensures { out.new ≡ Bytes.placed out.old start (Bytes.step_fields (StepsSpec.steps steps.now)) }

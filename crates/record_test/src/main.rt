@@ -46,13 +46,10 @@ fn holds(room: &[u8; LISTING_ROOM], bytes: &[u8]) -> bool {
 
 // Whether a room begins with the numbers of a row, and nothing was written past them.
 fn holds_row(room: &[u32], row: &[[u8; 4]]) -> bool {
-    match room.split_at_checked(row.len()) {
-        Some((front, rest)) => {
-            let wanted = row.iter().map(|number| u32::from_le_bytes(*number));
-            front.iter().copied().eq(wanted) & rest.iter().all(|number| *number == MARKED)
-        }
-        None => false,
-    }
+    room.split_at_checked(row.len()).is_some_and(|(front, rest)| {
+        let wanted = row.iter().map(|number| u32::from_le_bytes(*number));
+        front.iter().copied().eq(wanted) & rest.iter().all(|number| *number == MARKED)
+    })
 }
 
 // Whether the listing of a record is refused so where the text has `n` bytes and its
@@ -271,8 +268,8 @@ fn prints(input: &[u8], text: &[u8]) -> bool {
 }
 
 // Replays the cases of the next kind, three slices each (a record or an input, its text
-// and its layout's rows), and says how many of them `agrees` finds right. Not
-// `replay::kind`, whose cases are one slice each.
+// and its layout's rows), and says how many of them `agrees` finds right. Not by
+// `replay::count`, whose cases are one slice each.
 fn kind<R: Read, F: Fn(&[u8], &[u8], &[u8]) -> bool>(
     rt: &impl Print,
     input: &mut R,

@@ -146,8 +146,8 @@ fn tile(
 }
 
 // Kinds are None (0), LF (1) and HF (2); the first of a pair is the output kind, the
-// second the stored kind. They stay numbers, matched once over the pairs: a rule of
-// this project, as any byte may come from C.
+// second the stored kind. They stay numbers, matched once over the pairs: any byte may
+// come, and enums of three would ask more of callers.
 pub fn get_grid_rect(
     channel: Channel,
     output: u8,

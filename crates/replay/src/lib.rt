@@ -35,16 +35,22 @@ pub fn say(rt: &impl Print, kind: &str, cases: u64, right: u64) -> io::Result<()
     println!(rt; "{kind}{cases} right {right}")
 }
 
+// How many cases of a kind there were, and how many of them were right.
+#[derive(Clone, Copy, PartialEq, Eq, Debug)]
+pub struct Tally {
+    pub cases: u64,
+    pub right: u64,
+}
+
 // Replays the cases of the next kind, how many stands before them, one after the other
-// in `space`, and says how many of them `agrees` finds right.
-pub fn kind<R: Read, F: FnMut(&[u8]) -> bool>(
-    rt: &impl Print,
+// in `space`, and counts those that `agrees` finds right.
+pub fn count<R: Read, F: FnMut(&[u8]) -> bool>(
     input: &mut R,
-    name: &str,
     space: &mut [u8],
     mut agrees: F,
-) -> io::Result<()>
+) -> io::Result<Tally>
     requires { F.IsAlwaysCallable agrees }
+    ensures { IfOk result (λ tally. tally.right ≤ tally.cases) }
 {
     let cases = read_word(input)?;
     let mut right = 0u64;
@@ -54,5 +60,8 @@ pub fn kind<R: Read, F: FnMut(&[u8]) -> bool>(
             right += 1;
         }
     }
-    say(rt, name, cases as u64, right)
+    Ok(Tally {
+        cases: cases as u64,
+        right,
+    })
 }

@@ -1,5 +1,5 @@
 // One row: the ordinary pairs, then the last pair, whose next average is chosen,
-// and the tail. Ordinary pairs take the slices singly: they read no outer lines.
+// and the tail.
 ghost use Rattle.std.specs.Prelude.{◌≡◌, true, cond, List, ◌+◌, ◌-◌, ◌<◌, ◌≤◌, ltb, ℤ, pos, length, get_or};
 ghost use Rattle.line.specs.Line.{or_else};
 ghost use Rattle.line.specs.Uncut.{squeeze, uncut, Fitting, outer};

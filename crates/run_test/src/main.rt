@@ -110,10 +110,9 @@ fn lend(room: &mut [i32; ROOM], n: u32) -> Option<&mut [i32]> {
 // nothing was written around it.
 fn holds(room: &[i32; ROOM], n: u32, samples: &[u8]) -> bool {
     let to = GUARD + n as usize;
-    match room.get(GUARD..to) {
-        Some(lent) => kept(room, 0, GUARD) & same(samples, lent) & kept(room, to, to + GUARD),
-        None => false,
-    }
+    room.get(GUARD..to).is_some_and(|lent| {
+        kept(room, 0, GUARD) & same(samples, lent) & kept(room, to, to + GUARD)
+    })
 }
 
 // Whether nothing was written in a room, as far as a lent slice with its guards reaches.
@@ -218,9 +217,10 @@ fn agrees(case: &[u8], rooms: &mut Rooms) -> Option<bool> {
 fn kind<R: Read>(rt: &impl Print, input: &mut R, name: &str) -> io::Result<()> {
     let mut space = case_room();
     let mut rooms = Rooms::empty();
-    replay::kind(rt, input, name, &mut space, |case| {
+    let tally = replay::count(input, &mut space, |case| {
         agrees(case, &mut rooms) == Some(true)
-    })
+    })?;
+    replay::say(rt, name, tally.cases, tally.right)
 }
 
 fn main(rt: HostRuntime) -> io::Result<()> {

@@ -1,5 +1,6 @@
 // Tiles: one tile of an inverse squeeze, and the rectangle of a channel at a grid
-// position, over numbers as C has them.
+// position, over numbers as C has them: any number may come, and a bool or an enum in
+// its place would ask more of callers.
 ghost use Rattle.std.specs.Prelude.{◌≡◌};
 ghost use Rattle.numbers.specs.Numbers.{answer_of};
 ghost use Rattle.tile.specs.Call as Call;

@@ -1,5 +1,5 @@
 // Tiles: one tile of an inverse squeeze, and the rectangle of a channel at a grid
-// position.
+// position. Numbers and slices stand apart, as C has them.
 ghost use Rattle.std.specs.Prelude.{◌≡◌};
 ghost use Rattle.tile.specs.Call as Call;
 ghost use Rattle.squeeze.specs.GridRect as GridRect;

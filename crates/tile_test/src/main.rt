@@ -84,15 +84,12 @@ impl Head {
         if self.answer != 0 {
             return wanted.is_empty() & kept(room, 0, room.len());
         }
-        match room.get(GUARD..to) {
-            Some(out) => {
-                (wanted.len() == 4 * out.len())
-                    & kept(room, 0, GUARD)
-                    & same(wanted, out)
-                    & kept(room, to, room.len())
-            }
-            None => false,
-        }
+        room.get(GUARD..to).is_some_and(|out| {
+            (wanted.len() == 4 * out.len())
+                & kept(room, 0, GUARD)
+                & same(wanted, out)
+                & kept(room, to, room.len())
+        })
     }
 }
 
@@ -137,9 +134,10 @@ fn kind<R: Read>(rt: &impl Print, input: &mut R, name: &str) -> io::Result<()> {
     let mut space = [0u8; CASE];
     let mut slices = [0i32; ROOM];
     let mut room = [0i32; ROOM];
-    replay::kind(rt, input, name, &mut space, |case| {
+    let tally = replay::count(input, &mut space, |case| {
         agrees(case, &mut slices, &mut room) == Some(true)
-    })
+    })?;
+    replay::say(rt, name, tally.cases, tally.right)
 }
 
 fn main(rt: HostRuntime) -> io::Result<()> {

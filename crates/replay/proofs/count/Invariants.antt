@@ -1,7 +1,7 @@
--- `kind`: as many cases are right as were read, at most, and what tells them may be called again. Assumes nothing.
+-- `count`: as many cases are right as were read, at most, and what tells them may be called again. Assumes nothing.
 use Rattle.std.proofs.Common.{◌≡◌, ◌≤◌, length}
 use denote.Param.Always.{always_mut}
-use Rattle.replay.proofs.kind.Given as goal
+use Rattle.replay.proofs.count.Given as goal
 
 abbrev pub invariant-loop : goal.invariant-loop
 invariant-loop g l =
