@@ -1,84 +1,62 @@
--- The decimal digits of a number (`digits_upto` of specs/Text.antt) are the end of its last digits; which number they stand for, and how many they
--- are. Assumes nothing.
+-- The decimal digits of a number (`digits_upto` of specs/Text.antt) are those that the library prints; which number they stand for, and how many
+-- they are. Assumes nothing.
 use mathlib.Core.Path.{◌≡◌, refl, ap, ◌∙◌}
 use mathlib.Core.List.{List, [], ◌∷◌, ◌++◌}
-use mathlib.Core.Bool.{Bool, true, false, cond}
+use mathlib.Core.Bool.{Bool, true, false, cond, and-eq-true_iff}
 use Prim.Native.Nat.{ℕ, zero, suc, ◌+◌, ◌-◌, ◌*◌, ◌/◌, ◌%◌, ◌^◌, ◌<◌, ◌≤◌}
 use native.Mathlib.Nat.{pow-succ'}
 use native.Mathlib.Omega.{arith}
-use borrow.Author.Tests.{ltb-true, ltb-false, lt-ltb, le-ltb}
-use lib.Dec.{ltb}
-use lib.ListN.{length, take, drop, length-append}
-use lib.Seq.{take-length}
+use borrow.Author.Tests.{ltb-true, ltb-false, lt-ltb, leb-true}
+use lib.Dec.{ltb, leb}
+use lib.ListN.{length, length-append}
+use Rattle.std.specs.Fmt.{decimal as printed}
+use Rattle.std.proofs.lemmas.Fmt.{decimal_digit, decimal_step}
+use Rattle.numbers.specs.declared.Refusal.{Refusal}
+use Rattle.numbers.specs.declared.Refusal.TheVariants.{Outside, Field, Count, Form, Samples, Default, Range, Kinds, Place, Empty, Room, Sizes, Tile, Length}
+use Rattle.numbers.specs.Numbers.{max_side, number_of}
+use Rattle.channel.specs.declared.Channel.{Channel}
+use Rattle.channel.specs.Channel.{sides_fit}
 use Rattle.listing.specs.Text.{number_places, digit, digits_upto, decimal, value_from, two}
-use Rattle.listing.specs.Putting.{number_room, two_room, shifts_room, last_digits, Vain}
+use Rattle.listing.specs.Putting.{number_room, number_limit, two_room, shifts_room}
 
-last_length : (places n : ℕ) → length (last_digits places n) ≡ places
-last_length zero n = refl
-last_length (suc places) n = rw length-append (omega (arith, last_length places (n / 10)))
-
--- the rest of a list that ends in xs
-drop_front : (vain : ℕ) (xs ys : List ℕ) → vain ≤ length xs → drop vain (xs ++ ys) ≡ drop vain xs ++ ys
-drop_front zero xs ys h = refl
-drop_front (suc vain) [] ys h = absurd (omega arith)
-drop_front (suc vain) (x ∷ xs) ys h = drop_front vain xs ys (omega arith)
-
-drop_whole : (places : ℕ) (xs ys : List ℕ) → length xs ≡ places → drop places (xs ++ ys) ≡ ys
-drop_whole zero [] ys h = refl
-drop_whole zero (x ∷ xs) ys h = absurd (omega arith)
-drop_whole (suc places) [] ys h = absurd (omega arith)
-drop_whole (suc places) (x ∷ xs) ys h = drop_whole places xs ys (omega arith)
-
--- ---- the last digits
--- a number below 10 is its last one
-pub one_digit : (places n : ℕ) → n < 10 → Vain (suc places) n places
-one_digit places n h =
-    let same : n % 10 ≡ n = omega arith in
-    record {
-      count = rw (lt-ltb n 10 h) (omega arith);
-      rest = drop_whole places (last_digits places (n / 10)) (digit (n % 10) ∷ []) (last_length places (n / 10)) ∙ rw (lt-ltb n 10 h, same);
-    }
-
--- the only one is the last of any number
-pub only_digit : (n : ℕ) → Vain 1 n 0
-only_digit n = go (ltb n 10) refl
+-- ---- they are the digits that the library prints
+printed_upto : (places n : ℕ) → n < 10 ^ suc places → n < 2 ^ 64 → printed n ≡ digits_upto (suc places) n
+printed_upto zero n h small = let one : n < 10 = omega (arith, pow-succ' 10 0) in rw (lt-ltb n 10 one) (decimal_digit n one)
+printed_upto (suc places) n h small =
+    let tenth : n / 10 < 10 ^ suc places = omega (arith, pow-succ' 10 (suc places)) in
+    go (ltb n 10) refl (printed_upto places (n / 10) tenth (omega arith))
   where
-    go : (b : Bool) → ltb n 10 ≡ b → Vain 1 n 0
-    go true e = one_digit 0 n (ltb-true n 10 e)
-    go false e = record { count = rw e; rest = rw e }
+    go : (b : Bool) → ltb n 10 ≡ b → printed (n / 10) ≡ digits_upto (suc places) (n / 10)
+        → printed n ≡ cond b (digit n ∷ []) (digits_upto (suc places) (n / 10) ++ (digit (n % 10) ∷ []))
+    go true e v = decimal_digit n (ltb-true n 10 e)
+    go false e v = decimal_step n (ltb-false n 10 e) small ∙ ap (λ (l : List ℕ). l ++ (digit (n % 10) ∷ [])) v
 
--- and before it stand those of the tenth part
-pub more_digits : (places n vain : ℕ) → 10 ≤ n → Vain places (n / 10) vain → Vain (suc places) n vain
-more_digits places n vain h v =
-    let long = last_length places (n / 10) in
-    let last : List ℕ = digit (n % 10) ∷ [] in
-    record {
-      count = rw (le-ltb n 10 h, length-append) (omega (arith, v.count));
-      rest = drop_front vain (last_digits places (n / 10)) last (omega (arith, v.count)) ∙ rw (le-ltb n 10 h) (ap (λ (l : List ℕ). l ++ last) v.rest);
-    }
-
--- so many of them before it
-abbrev pub tenths : ℕ → ℕ → ℕ
-tenths zero n = n
-tenths (suc k) n = tenths k (n / 10)
-
-tenths_le : (k n : ℕ) → tenths k n ≤ n
-tenths_le zero n = omega arith
-tenths_le (suc k) n = omega (arith, tenths_le k (n / 10))
-
-pub many_digits : (k places n vain : ℕ) → 10 ≤ tenths k n → Vain places (tenths (suc k) n) vain → Vain (suc k + places) n vain
-many_digits zero places n vain h v = let z : 1 + places ≡ suc places = omega arith in rw z (more_digits places n vain h v)
-many_digits (suc k) places n vain h v =
-    let z : suc (suc k) + places ≡ suc (suc k + places) = omega arith in
-    rw z (more_digits (suc k + places) n vain (omega (arith, tenths_le (suc k) n)) (many_digits k places (n / 10) vain h v))
-
--- the part of the last digits that a number has
-pub digits_part : (n vain : ℕ) (digits : List ℕ) → digits ≡ last_digits number_places n → Vain number_places n vain
-    → take (number_room - vain) (drop vain digits) ≡ decimal n
+pub printed_is_decimal : (n : ℕ) → n < number_limit → printed n ≡ decimal n
 unfolding decimal
-digits_part n vain digits e d =
-    let size : number_room - vain ≡ length (digits_upto number_places n) = omega (arith, d.count) in
-    rw (e, d.rest, size) (take-length (digits_upto number_places n))
+printed_is_decimal n h = printed_upto 6 n h (omega arith)
+
+-- ---- numbers below the limit
+pub sides_small : (c : Channel) → sides_fit c ≡ true → (c.width < number_limit) × (c.height < number_limit)
+unfolding sides_fit
+sides_small c h =
+    let b = (and-eq-true_iff (leb c.width max_side) (leb c.height max_side)).0 h in
+    (omega (arith, leb-true _ _ b.0), omega (arith, leb-true _ _ b.1))
+
+pub refusal_small : (r : Refusal) → number_of r < number_limit
+refusal_small Outside = omega arith
+refusal_small Field = omega arith
+refusal_small Count = omega arith
+refusal_small Form = omega arith
+refusal_small Samples = omega arith
+refusal_small Default = omega arith
+refusal_small Range = omega arith
+refusal_small Kinds = omega arith
+refusal_small Place = omega arith
+refusal_small Empty = omega arith
+refusal_small Room = omega arith
+refusal_small Sizes = omega arith
+refusal_small Tile = omega arith
+refusal_small Length = omega arith
 
 -- ---- the number that they stand for: all of it, where the places are enough
 value_last : (n : ℕ) (ds : List ℕ) (d : ℕ) → value_from n (ds ++ (d ∷ [])) ≡ 10 * value_from n ds + (d - digit 0)
@@ -138,14 +116,3 @@ two_room_lem m n = omega (arith, two_length m n, decimal_length m, decimal_lengt
 
 pub shifts_room_lem : (m n : ℕ) → m < 256 → n < 256 → length (two m n) ≤ shifts_room
 shifts_room_lem m n a b = omega (arith, two_length m n, three_length m (omega arith), three_length n (omega arith))
-
--- ---- room for them at a place of a text
-module _ (at size : ℕ) where
-  pub fits_number : (n : ℕ) → at + number_room ≤ size → at + length (decimal n) ≤ size
-  fits_number n h = omega (arith, decimal_length n)
-
-  pub fits_two : (m n : ℕ) → at + two_room ≤ size → at + length (two m n) ≤ size
-  fits_two m n h = omega (arith, two_room_lem m n)
-
-  pub fits_shifts : (m n : ℕ) → m < 256 → n < 256 → at + shifts_room ≤ size → at + length (two m n) ≤ size
-  fits_shifts m n a b h = omega (arith, shifts_room_lem m n a b)

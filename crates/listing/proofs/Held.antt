@@ -1,13 +1,16 @@
 -- The channels and the steps that flat arrays hold, where their count is within its limit. Assumes nothing.
 use mathlib.Core.Path.{◌≡◌, ap}
-use Prim.Native.Nat.{◌≤◌, min}
+use mathlib.Core.Bool.{true}
+use Prim.Native.Nat.{ℕ, ◌+◌, ◌<◌, ◌≤◌, min}
 use native.Mathlib.Omega.{arith}
 use lib.ListN.{length}
 use Rattle.list.specs.declared.ChannelList.{ChannelList}
-use Rattle.list.specs.Tables.{table}
+use Rattle.channel.specs.Channel.{sides_fit}
+use Rattle.list.specs.Tables.{table, all}
 use Rattle.list.specs.Lists as Lists
 use Rattle.list.specs.Lists.{max_channels, max_steps, channel_at, channels}
-use Rattle.list.proofs.Tables.{table_length}
+use Rattle.list.proofs.Tables.{table_length, table_at}
+use Rattle.list.proofs.Maps.{all_at}
 use Rattle.plan.specs.declared.Steps.{Steps}
 use Rattle.plan.specs.Steps as S
 use Rattle.plan.specs.Steps.{step_at, steps}
@@ -19,6 +22,14 @@ module _ (l : ChannelList) (few : l.count ≤ max_channels) where
 
   pub channels_count : length (channels l) ≡ l.count
   channels_count = rw (← channels_are) (table_length (channel_at l) 0 l.count)
+
+  -- where each has sides that a channel may have, entry k has them
+  pub channel_fits : all sides_fit (channels l) ≡ true → (k : ℕ) → k < l.count → sides_fit (channel_at l k) ≡ true
+  channel_fits a k h =
+      let d = channel_at l 0 in
+      let long = table_length (channel_at l) 0 l.count in
+      let z : 0 + k ≡ k = omega arith in
+      rw (table_at (channel_at l) 0 l.count k d h, z) at (all_at sides_fit (table (channel_at l) 0 l.count) k d (rw channels_are a) (omega (arith, long)))
 
 module _ (s : Steps) (few : s.count ≤ max_steps) where
   pub steps_are : table (step_at s) 0 s.count ≡ steps s

@@ -15,10 +15,10 @@ use Rattle.list.proofs.Channels.{channels_length}
 use Rattle.plan.specs.Version.{rule_of}
 use Rattle.plan.specs.Coarse.{coarse_count}
 use Rattle.plan.proofs.Coarse.{count_laws}
+use Rattle.record.specs.Bytes.{placed}
 use Rattle.record.specs.Records.{read_answer, version_of, steps_of, reached_of}
 use Rattle.listing.specs.Text.{numbered, refused_word}
 use Rattle.listing.specs.Listing.{lines_text, plan_text, listing, list_answer, text_after, size_after, judged_bytes, printed, printed_over}
-use Rattle.listing.specs.Putting.{Put}
 
 -- ---- both slices have room
 pub room_left : (n text size : ℕ) → leb n text && leb 1 size ≡ true → (n ≤ text) × (1 ≤ size)
@@ -59,19 +59,19 @@ module _ (bytes text size : List ℕ) where
         let t = rw en at h in
         (rw (r, t), rw (r, t), rw (r, t))
 
-    pub list_whole : leb n (length text) && leb 1 (length size) ≡ true → (after : List ℕ) (end : ℕ) → Put (listing bytes) 0 text after end
+    pub list_whole : leb n (length text) && leb 1 (length size) ≡ true → (after : List ℕ) → after ≡ placed text 0 (listing bytes)
         → Ends 0 after (set size 0 n)
     unfolding list_answer text_after size_after
-    list_whole h after end p =
+    list_whole h after so =
         let t = rw en at h in
-        (rw (r, t), rw (r, t) (p.so ∙ rw zero-add), rw (r, t) (first size (room_left n (length text) (length size) h).1 ∙ rw en))
+        (rw (r, t), rw (r, t) (so ∙ rw zero-add), rw (r, t) (first size (room_left n (length text) (length size) h).1 ∙ rw en))
       where
         first : (xs : List ℕ) → 1 ≤ length xs → set xs 0 n ≡ n ∷ drop 1 xs
         first [] l = absurd (omega arith)
         first (x ∷ xs) l = refl
 
 -- ---- the program's text: `judged` is what was listed
-module _ (input judged text after : List ℕ) (end : ℕ) (is : judged ≡ take judged_bytes input) (p : Put (listing judged) 0 text after end) where
-  pub printed_so : (end ≡ length (printed input)) × (after ≡ printed_over input text)
+module _ (input judged text after : List ℕ) (is : judged ≡ take judged_bytes input) (so : after ≡ placed text 0 (listing judged)) where
+  pub printed_so : (length (listing judged) ≡ length (printed input)) × (after ≡ printed_over input text)
   unfolding printed printed_over
-  printed_so = rw (← is) (omega (arith, p.ends), p.so ∙ rw zero-add)
+  printed_so = rw (← is) (refl, so ∙ rw zero-add)

@@ -1,75 +1,49 @@
--- Parts put one after the other (`Put` of specs/Putting.antt), and a loop that puts the lines of a table one by one. Assumes nothing.
-use mathlib.Core.Path.{◌≡◌, refl, sym, ap, ◌∙◌}
-use mathlib.Core.List.{List, [], ◌++◌, append_assoc, append-nil}
+-- Parts put on a page one after the other, where each has room, and a loop that puts the lines of a table one by one. Assumes nothing.
+use mathlib.Core.Path.{◌≡◌, sym, ap, ◌∙◌}
+use mathlib.Core.List.{List, ◌++◌, append_assoc, append-nil}
 use Prim.Native.Nat.{ℕ, ◌+◌, ◌-◌, ◌<◌, ◌≤◌}
 use native.Mathlib.Omega.{arith}
-use lib.ListN.{length, take, drop, length-append}
-use lib.Seq.{take_at}
+use lib.ListN.{length, length-append}
 use Rattle.list.specs.Tables.{table}
 use Rattle.list.proofs.Tables.{table_rest, table_none}
 use Rattle.record.specs.Bytes.{joined}
-use Rattle.record.proofs.Placed.{placed_none, placed_length, placed_more}
-use Rattle.listing.specs.Putting.{Put}
+use Rattle.listing.specs.Putting.{Fits}
 
-module _ {new : List ℕ} {at : ℕ} {before after : List ℕ} {end : ℕ} (p : Put new at before after end) where
-  room : at + length new ≤ length before
-  room = omega (arith, p.ends, p.inside)
+-- ---- one part after the other: x on the page a, and y on the page b that this gives
+pub then : (a b x y : List ℕ) {c : List ℕ} → b ≡ a ++ x → c ≡ b ++ y → c ≡ a ++ (x ++ y)
+then a b x y e f = rw (f, e) (simp append_assoc)
 
-  pub put_length : length after ≡ length before
-  put_length = ap length p.so ∙ placed_length before at new room
+pub first_fits : (a x y : List ℕ) → Fits a (x ++ y) → Fits a x
+first_fits a x y h = omega (arith, length-append x y)
 
-  pub put_inside : end ≤ length after
-  put_inside = omega (arith, p.inside, put_length)
+pub rest_fits : (a x y : List ℕ) {b : List ℕ} → b ≡ a ++ x → Fits a (x ++ y) → Fits b y
+rest_fits a x y e h = omega (arith, ap length e, length-append a x, length-append x y)
 
-  -- one part after the other
-  pub then : {more : List ℕ} {last : List ℕ} {finish : ℕ} → Put more end after last finish → Put (new ++ more) at before last finish
-  then {more} q =
-      record {
-        ends = omega (arith, p.ends, q.ends, length-append new more);
-        inside = omega (arith, q.inside, put_length);
-        so = q.so ∙ rw (p.so, p.ends) (placed_more before at new room more);
-      }
+-- ---- n lines, those of f: before the loop `start` stands on the page, after k of them `page`, and those that are left complete them
+pub record Lines {ℓ} {A : Type ℓ} (line : A → List ℕ) (f : ℕ → A) (n : ℕ) (start page : List ℕ) (k : ℕ) : Type ℓ where
+  pub left : page ++ joined line (table f k (n - k)) ≡ start ++ joined line (table f 0 n)
 
--- a text put at the beginning is the slice's front
-module _ {new before after : List ℕ} {end : ℕ} (p : Put new 0 before after end) where
-  pub front_end : end ≡ length new
-  front_end = omega (arith, p.ends)
+module _ {ℓ} {A : Type ℓ} (line : A → List ℕ) (f : ℕ → A) (n : ℕ) (start : List ℕ) where
+  pub lines_none : Lines line f n start start 0
+  lines_none = let z : n - 0 ≡ n = omega arith in record { left = ap (λ (m : ℕ). start ++ joined line (table f 0 m)) z }
 
-  pub put_front : take end after ≡ new
-  put_front = rw (front_end, p.so) (take_at new (drop (0 + length new) before) (length new) refl)
+  module _ (page : List ℕ) (k : ℕ) (w : Lines line f n start page k) where
+    pub lines_more : k < n → (next : List ℕ) → next ≡ page ++ line (f k) → Lines line f n start next (k + 1)
+    lines_more h next e = record { left = rw (e, append_assoc) (rw (table_rest f k n h) at w.left) }
 
-  pub front_length : end ≡ length (take end after)
-  front_length = front_end ∙ sym (ap length put_front)
+    -- there is room for one more where there was room for all
+    pub line_fits : k < n → Fits start (joined line (table f 0 n)) → Fits page (line (f k))
+    line_fits h room =
+        let rest = joined line (table f (k + 1) (n - (k + 1))) in
+        let long = ap length (rw (table_rest f k n h) at w.left) in
+        omega (
+          arith,
+          room,
+          long,
+          length-append start (joined line (table f 0 n)),
+          length-append page (line (f k) ++ rest),
+          length-append (line (f k)) rest,
+        )
 
--- n lines, those of f; k of them are put from `start` on, and those that are left complete them
-pub record Lines {ℓ} {A : Type ℓ} (line : A → List ℕ) (f : ℕ → A) (n start : ℕ) (text₀ text : List ℕ) (at k : ℕ) : Type ℓ where
-  pub done : List ℕ
-  pub inside : k ≤ n
-  pub put : Put done start text₀ text at
-  pub left : done ++ joined line (table f k (n - k)) ≡ joined line (table f 0 n)
-
-module _ {ℓ} {A : Type ℓ} (line : A → List ℕ) (f : ℕ → A) (n start : ℕ) (text₀ : List ℕ) where
-  pub lines_none : start ≤ length text₀ → Lines line f n start text₀ text₀ start 0
-  lines_none h =
-      let z : n - 0 ≡ n = omega arith in
-      record {
-        done = [];
-        inside = omega arith;
-        put = record { ends = omega arith; inside = h; so = placed_none text₀ start };
-        left = rw z;
-      }
-
-  module _ (text : List ℕ) (at k : ℕ) (w : Lines line f n start text₀ text at k) where
-    pub lines_more : k < n → (text' : List ℕ) (end : ℕ) → Put (line (f k)) at text text' end → Lines line f n start text₀ text' end (k + 1)
-    lines_more h text' end p =
-        record {
-          done = w.done ++ line (f k);
-          inside = omega arith;
-          put = then w.put p;
-          left = rw append_assoc (rw (table_rest f k n h) at w.left);
-        }
-
-    pub lines_all : n ≤ k → Put (joined line (table f 0 n)) start text₀ text at
-    lines_all h =
-        let e : w.done ≡ joined line (table f 0 n) = sym (append-nil w.done) ∙ rw (table_none f k n h) at w.left in
-        rw (← e) w.put
+    pub lines_all : n ≤ k → page ≡ start ++ joined line (table f 0 n)
+    lines_all h = sym (append-nil page) ∙ rw (table_none f k n h) at w.left

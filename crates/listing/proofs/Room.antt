@@ -8,11 +8,12 @@ use native.Mathlib.Nat.{mul-zero, mul-suc}
 use native.Mathlib.Omega.{arith}
 use lib.ListN.{length, length-append}
 use Rattle.channel.specs.declared.Channel.{Channel}
-use Rattle.channel.specs.Channel.{is_meta, shifts_allowed}
+use Rattle.channel.specs.Channel.{is_meta, shifts_allowed, sides_fit}
 use Rattle.channel.proofs.Shifts.{plain_shifts}
 use Rattle.list.specs.declared.Step.{Step}
 use Rattle.list.specs.Tables.{all}
 use Rattle.list.specs.Lists.{max_channels, max_steps}
+use Rattle.list.specs.Accepted.{Accepted}
 use Rattle.list.proofs.Acceptance.{allowed_both}
 use Rattle.plan.specs.Version.{rule_of}
 use Rattle.plan.specs.Coarse.{coarse_count}
@@ -65,7 +66,7 @@ channel_room_lem c a =
     let w = shift_words c in
     omega (arith, length-append t (space ∷ (w ++ (newline ∷ []))), length-append w (newline ∷ []), two_room_lem c.width c.height, words_room c a)
 
-numbered_room : (word : List ℕ) (n : ℕ) → length (numbered word n) ≤ length word + number_room + 1
+pub numbered_room : (word : List ℕ) (n : ℕ) → length (numbered word n) ≤ length word + number_room + 1
 numbered_room word n = rw length-append (omega (arith, decimal_length n, length-append (decimal n) (newline ∷ [])))
 
 -- ---- all lines
@@ -102,8 +103,15 @@ plan_room version ss cs few count allowed =
       numbered_room coarse_word (coarse_count (rule_of version).stop cs),
     )
 
+reached_accepted : (bytes : List ℕ) → read_answer bytes ≡ 0 → Accepted (reached_of bytes)
+reached_accepted bytes z = plan_accepted (steps_of bytes) (channels_of bytes) (channels_accepted bytes z) (steps_judged bytes z)
+
+-- the sides of the list that an accepted record's steps leave
+pub reached_sides : (bytes : List ℕ) → read_answer bytes ≡ 0 → all sides_fit (reached_of bytes) ≡ true
+reached_sides bytes z = (allowed_both (reached_of bytes) (reached_accepted bytes z).allowed).1
+
 pub listing_room_lem : (bytes : List ℕ) → read_answer bytes ≡ 0 → length (listing bytes) ≤ listing_room
 unfolding Listing.listing
 listing_room_lem bytes z =
-    let a = plan_accepted (steps_of bytes) (channels_of bytes) (channels_accepted bytes z) (steps_judged bytes z) in
+    let a = reached_accepted bytes z in
     rw z (plan_room (version_of bytes) (steps_of bytes) (reached_of bytes) (steps_few bytes z) a.few (allowed_both (reached_of bytes) a.allowed).0)

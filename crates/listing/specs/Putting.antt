@@ -1,19 +1,16 @@
--- A text that is put into a slice part after part, for the contracts of the functions that do so, and how much room a part may take.
--- Definitions only.
-use Rattle.std.specs.Prelude.{◌≡◌, List, [], ◌∷◌, ◌++◌, ℕ, zero, suc, ◌+◌, ◌/◌, ◌%◌, ◌≤◌, length, drop}
-use Rattle.record.specs.Bytes.{placed}
-use Rattle.listing.specs.Text.{number_places, digit, digits_upto}
-
--- `new` is put into a text from `at` on and ends at `end`; what stood before it and after it stays
-pub record Put (new : List ℕ) (at : ℕ) (before after : List ℕ) (end : ℕ) : Type 0 where
-  pub ends : end ≡ at + length new
-  pub inside : end ≤ length before
-  pub so : after ≡ placed before at new
+-- How much room the parts of a listing may take, and whether one fits a page, for the contracts of the functions that put them on it. Definitions
+-- only.
+use Rattle.std.specs.Prelude.{List, ℕ, ◌+◌, ◌^◌, ◌≤◌, length}
+use Rattle.listing.specs.Text.{number_places}
 
 -- room for a number, which has at most seven digits, for two with a space between them, for two shifts, which have at most three each, and for a
 -- step's two words
 abbrev pub number_room : ℕ
 number_room = number_places
+
+-- the numbers that have so many digits at most lie below it
+abbrev pub number_limit : ℕ
+number_limit = 10 ^ number_places
 
 abbrev pub two_room : ℕ
 two_room = number_room + 1 + number_room
@@ -37,13 +34,6 @@ channel_room = two_room + 1 + shifts_room + 1
 abbrev pub listing_room : ℕ
 listing_room = 8192
 
--- ---- numbers
--- the last decimal digits of a number, so many
-abbrev pub last_digits : ℕ → ℕ → List ℕ
-last_digits zero n = []
-last_digits (suc places) n = last_digits places (n / 10) ++ (digit (n % 10) ∷ [])
-
--- `vain` of a number's last digits lead in vain: the rest are its digits
-pub record Vain (places n vain : ℕ) : Type 0 where
-  pub count : vain + length (digits_upto places n) ≡ places
-  pub rest : drop vain (last_digits places n) ≡ digits_upto places n
+-- a page that has room for any listing has room for `new` after what stands on it
+abbrev pub Fits : List ℕ → List ℕ → Type 0
+Fits page new = length page + length new ≤ listing_room

@@ -2,17 +2,21 @@
 // text bytes out. Total.
 #![tactic(auto)]
 
-ghost use Rattle.std.specs.Prelude.{◌≡◌, true, ◌+◌, ◌*◌, ◌%◌, ◌≤◌, length, IfOk, OnErr};
+ghost use Rattle.std.specs.Prelude.{◌≡◌, true, [], ◌++◌, ◌<◌, ◌≤◌, length, IfOk, OnErr};
 ghost use Rattle.numbers.specs.Numbers.{answer_of};
+ghost use Rattle.channel.specs.Channel.{sides_fit};
+ghost use Rattle.list.specs.Tables.{all};
 ghost use Rattle.list.specs.Lists.{max_channels, max_steps, channels};
 ghost use Rattle.plan.specs.Steps as StepsSpec;
 ghost use Rattle.record.specs.Records.{read_answer};
 ghost use Rattle.listing.specs.Text as Text;
 ghost use Rattle.listing.specs.Putting as Putting;
-ghost use Rattle.listing.specs.Putting.{Put};
+ghost use Rattle.listing.specs.Putting.{Fits};
 ghost use Rattle.listing.specs.Listing as Spec;
 
+use arrayvec::ArrayString;
 use channel::Channel;
+use itoa::Buffer;
 use list::{ChannelList, Step};
 use numbers::Refusal;
 use plan::Steps;
@@ -23,218 +27,141 @@ pub const LISTING_ROOM: usize = 8192;
 // "judges the first 4,096 bytes of standard input".
 pub const JUDGED_BYTES: usize = 4096;
 
-// `word` into `text` from `at` on. Here and below the result is where the new
-// part ends.
-fn put_word(word: &[u8], at: usize, text: &mut [u8]) -> usize
-    requires { at + length word.now ≤ length text.old }
-    ensures { Put word.now at text.old text.new result }
-{
-    record::put_bytes(word, at, text);
-    at + word.len()
-}
+// The text that a listing is put on, in fixed memory. Its parts are put by functions
+// that can't fail, not by an `impl Display` of a line: no clause of the library says
+// that a `write!` succeeds where there is room, and a listing may not be refused.
+type Page = ArrayString<LISTING_ROOM>;
 
-// The character of the last digit.
-fn digit(n: usize) -> u8
-    ensures { result ≡ Text.digit (n % 10) }
+// The digits of a number of at most seven.
+#[tactic(auto, using(crate::proofs::Digits::printed_is_decimal))]
+fn put_number(n: usize, page: &mut Page)
+    requires { (n < Putting.number_limit) × Fits page.old.bytes (Text.decimal n) }
+    ensures { page.new.bytes ≡ page.old.bytes ++ Text.decimal n }
 {
-    b'0' + (n % 10) as u8
-}
-
-fn seven_digits(n: usize) -> [u8; 7]
-    ensures { result ≡ Putting.last_digits Text.number_places n }
-{
-    let tens = n / 10;
-    let hundreds = tens / 10;
-    let thousands = hundreds / 10;
-    let ten_thousands = thousands / 10;
-    let hundred_thousands = ten_thousands / 10;
-    [
-        digit(hundred_thousands / 10),
-        digit(hundred_thousands),
-        digit(ten_thousands),
-        digit(thousands),
-        digit(hundreds),
-        digit(tens),
-        digit(n),
-    ]
-}
-
-// How many of the seven digits lead in vain.
-fn vain_digits(n: usize) -> usize
-    ensures { Putting.Vain Text.number_places n result }
-{
-    if n < 10 {
-        return 6;
-    }
-    if n < 100 {
-        return 5;
-    }
-    if n < 1000 {
-        return 4;
-    }
-    if n < 10_000 {
-        return 3;
-    }
-    if n < 100_000 {
-        return 2;
-    }
-    if n < 1_000_000 {
-        return 1;
-    }
-    0
-}
-
-fn put_number(n: usize, at: usize, text: &mut [u8]) -> usize
-    requires { at + length (Text.decimal n) ≤ length text.old }
-    ensures put { Put (Text.decimal n) at text.old text.new result }
-    ensures room { result ≤ at + Putting.number_room }
-{
-    let digits = seven_digits(n);
-    let vain = vain_digits(n);
-    put_word(&digits[vain..], at, text)
+    let mut buffer = Buffer::new();
+    page.push_str(buffer.format(n));
 }
 
 // "steps 3".
-fn put_numbered(word: &[u8], n: usize, at: usize, text: &mut [u8]) -> usize
-    requires { at + length word.now + Putting.number_room + 1 ≤ length text.old }
-    ensures put { Put (Text.numbered word.now n) at text.old text.new result }
-    ensures room { result ≤ at + length word.now + Putting.number_room + 1 }
+fn put_numbered(word: &str, n: usize, page: &mut Page)
+    requires { (n < Putting.number_limit) × Fits page.old.bytes (Text.numbered word.now n) }
+    ensures { page.new.bytes ≡ page.old.bytes ++ Text.numbered word.now n }
 {
-    let end = put_word(word, at, text);
-    let end = put_number(n, end, text);
-    put_word(b"\n", end, text)
-}
-
-fn put_direction(horizontal: bool, at: usize, text: &mut [u8]) -> usize
-    requires { at + Putting.direction_room ≤ length text.old }
-    ensures put { Put (Text.direction_word horizontal) at text.old text.new result }
-    ensures room { result ≤ at + Putting.direction_room }
-{
-    if horizontal {
-        put_word(b"h ", at, text)
-    } else {
-        put_word(b"v ", at, text)
-    }
-}
-
-fn put_place(inplace: bool, at: usize, text: &mut [u8]) -> usize
-    requires { at + Putting.place_room ≤ length text.old }
-    ensures put { Put (Text.place_word inplace) at text.old text.new result }
-    ensures room { result ≤ at + Putting.place_room }
-{
-    if inplace {
-        put_word(b"in ", at, text)
-    } else {
-        put_word(b"out ", at, text)
-    }
+    page.push_str(word);
+    put_number(n, page);
+    page.push_str("\n");
 }
 
 // Two numbers with a space between them.
-fn put_two(first: usize, second: usize, at: usize, text: &mut [u8]) -> usize
-    requires { at + length (Text.two first second) ≤ length text.old }
-    ensures put { Put (Text.two first second) at text.old text.new result }
-    ensures room { result ≤ at + Putting.two_room }
+fn put_two(first: usize, second: usize, page: &mut Page)
+    requires { (first < Putting.number_limit) × (second < Putting.number_limit) × Fits page.old.bytes (Text.two first second) }
+    ensures { page.new.bytes ≡ page.old.bytes ++ Text.two first second }
 {
-    let end = put_number(first, at, text);
-    let end = put_word(b" ", end, text);
-    put_number(second, end, text)
+    put_number(first, page);
+    page.push_str(" ");
+    put_number(second, page);
+}
+
+fn direction_word(horizontal: bool) -> &'static str
+    ensures { result.now ≡ Text.direction_word horizontal }
+{
+    if horizontal { "h " } else { "v " }
+}
+
+fn place_word(inplace: bool) -> &'static str
+    ensures { result.now ≡ Text.place_word inplace }
+{
+    if inplace { "in " } else { "out " }
 }
 
 // "h in 0 1".
-fn put_step(step: Step, at: usize, text: &mut [u8]) -> usize
-    requires { at + Putting.step_room ≤ length text.old }
-    ensures put { Put (Text.step_line step) at text.old text.new result }
-    ensures room { result ≤ at + Putting.step_room }
+#[tactic(auto, unfolding(crate::specs::Text::step_line))]
+fn put_step(step: Step, page: &mut Page)
+    requires { Fits page.old.bytes (Text.step_line step) }
+    ensures { page.new.bytes ≡ page.old.bytes ++ Text.step_line step }
 {
-    let end = put_direction(step.horizontal, at, text);
-    let end = put_place(step.inplace, end, text);
-    let end = put_two(step.begin as usize, step.number as usize, end, text);
-    put_word(b"\n", end, text)
+    page.push_str(direction_word(step.horizontal));
+    page.push_str(place_word(step.inplace));
+    put_two(step.begin as usize, step.number as usize, page);
+    page.push_str("\n");
 }
 
 // The two shifts, or "m m".
-fn put_shifts(c: Channel, at: usize, text: &mut [u8]) -> usize
-    requires { at + Putting.shifts_room ≤ length text.old }
-    ensures put { Put (Text.shift_words c) at text.old text.new result }
-    ensures room { result ≤ at + Putting.shifts_room }
+fn put_shifts(c: Channel, page: &mut Page)
+    requires { Fits page.old.bytes (Text.shift_words c) }
+    ensures { page.new.bytes ≡ page.old.bytes ++ Text.shift_words c }
 {
     if c.is_meta() {
-        put_word(b"m m", at, text)
+        page.push_str("m m");
     } else {
-        put_two(c.hshift as usize, c.vshift as usize, at, text)
+        put_two(c.hshift as usize, c.vshift as usize, page);
     }
 }
 
 // "10 9 1 0".
-fn put_channel(c: Channel, at: usize, text: &mut [u8]) -> usize
-    requires { at + Putting.channel_room ≤ length text.old }
-    ensures put { Put (Text.channel_line c) at text.old text.new result }
-    ensures room { result ≤ at + Putting.channel_room }
+#[tactic(auto, unfolding(crate::specs::Text::channel_line))]
+fn put_channel(c: Channel, page: &mut Page)
+    requires { (sides_fit c ≡ true) × Fits page.old.bytes (Text.channel_line c) }
+    ensures { page.new.bytes ≡ page.old.bytes ++ Text.channel_line c }
 {
-    let end = put_two(c.width as usize, c.height as usize, at, text);
-    let end = put_word(b" ", end, text);
-    let end = put_shifts(c, end, text);
-    put_word(b"\n", end, text)
+    put_two(c.width as usize, c.height as usize, page);
+    page.push_str(" ");
+    put_shifts(c, page);
+    page.push_str("\n");
 }
 
-fn put_steps(steps: &Steps, at: usize, text: &mut [u8]) -> usize
-    requires { (steps.now.count ≤ max_steps) × (at + Putting.step_room * steps.now.count ≤ length text.old) }
-    ensures put { Put (Text.step_lines (StepsSpec.steps steps.now)) at text.old text.new result }
-    ensures room { result ≤ at + Putting.step_room * steps.now.count }
+fn put_steps(steps: &Steps, page: &mut Page)
+    requires { (steps.now.count ≤ max_steps) × Fits page.old.bytes (Text.step_lines (StepsSpec.steps steps.now)) }
+    ensures { page.new.bytes ≡ page.old.bytes ++ Text.step_lines (StepsSpec.steps steps.now) }
 {
-    let mut end = at;
     for k in 0..steps.count {
-        end = put_step(steps.step(k), end, text);
+        put_step(steps.step(k), page);
     }
-    end
 }
 
-fn put_channels(list: &ChannelList, at: usize, text: &mut [u8]) -> usize
-    requires { (list.now.count ≤ max_channels) × (at + Putting.channel_room * list.now.count ≤ length text.old) }
-    ensures put { Put (Text.channel_lines (channels list.now)) at text.old text.new result }
-    ensures room { result ≤ at + Putting.channel_room * list.now.count }
+fn put_channels(list: &ChannelList, page: &mut Page)
+    requires { (list.now.count ≤ max_channels) × (all sides_fit (channels list.now) ≡ true) × Fits page.old.bytes (Text.channel_lines (channels list.now)) }
+    ensures { page.new.bytes ≡ page.old.bytes ++ Text.channel_lines (channels list.now) }
 {
-    let mut end = at;
     for k in 0..list.count {
-        end = put_channel(list.channel(k), end, text);
+        put_channel(list.channel(k), page);
     }
-    end
 }
 
 // The lines of a plan's steps and of the list that it leaves, and the coarse count.
-fn put_plan(steps: &Steps, list: &ChannelList, coarse: usize, text: &mut [u8]) -> usize
-    requires { (steps.now.count ≤ max_steps) × (list.now.count ≤ max_channels) × (coarse ≤ max_channels) × (Putting.listing_room ≤ length text.old) }
-    ensures { Put (Spec.lines_text (StepsSpec.steps steps.now) (channels list.now) coarse) 0 text.old text.new result }
+fn put_plan(steps: &Steps, list: &ChannelList, coarse: usize, page: &mut Page)
+    requires { (steps.now.count ≤ max_steps) × (list.now.count ≤ max_channels) × (all sides_fit (channels list.now) ≡ true) × (coarse ≤ max_channels) × Fits page.old.bytes (Spec.lines_text (StepsSpec.steps steps.now) (channels list.now) coarse) }
+    ensures { page.new.bytes ≡ page.old.bytes ++ Spec.lines_text (StepsSpec.steps steps.now) (channels list.now) coarse }
 {
-    let end = put_numbered(b"steps ", steps.count, 0, text);
-    let end = put_steps(steps, end, text);
-    let end = put_numbered(b"channels ", list.count, end, text);
-    let end = put_channels(list, end, text);
-    put_numbered(b"coarse ", coarse, end, text)
+    put_numbered("steps ", steps.count, page);
+    put_steps(steps, page);
+    put_numbered("channels ", list.count, page);
+    put_channels(list, page);
+    put_numbered("coarse ", coarse, page);
 }
 
-// The listing of an accepted record over the front of a text that has room for every
-// listing; after a refusal the text is as it was.
-fn put_record(bytes: &[u8], text: &mut [u8]) -> Result<usize, Refusal>
-    requires { Putting.listing_room ≤ length text.old }
+// The listing of an accepted record on an empty page; after a refusal the page is as
+// it was.
+fn put_record(bytes: &[u8], page: &mut Page) -> Result<(), Refusal>
+    requires { page.old.bytes ≡ [] }
     ensures judged { answer_of result ≡ read_answer bytes.now }
-    ensures put { IfOk result (λ end. Put (Spec.listing bytes.now) 0 text.old text.new end) }
-    ensures kept { OnErr result (text.new ≡ text.old) }
+    ensures put { IfOk result (λ _. page.new.bytes ≡ Spec.listing bytes.now) }
+    ensures kept { OnErr result (page.new ≡ page.old) }
 {
     let form = record::read_form(bytes)?;
     let reached = form.rewrite()?;
     let meant = form.meant_steps()?;
     let coarse = plan::coarse_count(form.version, &reached)?;
-    Ok(put_plan(&meant, &reached, coarse, text))
+    put_plan(&meant, &reached, coarse, page);
+    Ok(())
 }
 
-fn put_listing(bytes: &[u8], text: &mut [u8]) -> usize
-    requires { Putting.listing_room ≤ length text.old }
-    ensures { Put (Spec.listing bytes.now) 0 text.old text.new result }
+fn put_listing(bytes: &[u8], page: &mut Page)
+    requires { page.old.bytes ≡ [] }
+    ensures { page.new.bytes ≡ Spec.listing bytes.now }
 {
-    match put_record(bytes, text) {
-        Ok(end) => end,
-        Err(refusal) => put_numbered(b"refused ", refusal.number() as usize, 0, text),
+    if let Err(refusal) = put_record(bytes, page) {
+        put_numbered("refused ", refusal.number() as usize, page);
     }
 }
 
@@ -244,12 +171,13 @@ fn put_listing(bytes: &[u8], text: &mut [u8]) -> usize
 pub fn list_record(bytes: &[u8], text: &mut [u8], size: &mut [u32]) -> Result<(), Refusal>
     ensures { (answer_of result ≡ Spec.list_answer bytes.now text.old size.old) × (text.new ≡ Spec.text_after bytes.now text.old size.old) × (size.new ≡ Spec.size_after bytes.now text.old size.old) }
 {
-    let mut page = [0u8; LISTING_ROOM];
-    let length = put_record(bytes, &mut page)?;
+    let mut page = Page::new();
+    put_record(bytes, &mut page)?;
+    let length = page.len();
     if !((length <= text.len()) & (1 <= size.len())) {
         return Err(Refusal::Length);
     }
-    put_word(&page[..length], 0, text);
+    record::put_bytes(page.as_str().as_bytes(), 0, text);
     size[0] = length as u32;
     Ok(())
 }
@@ -260,8 +188,8 @@ pub fn list_input(input: &[u8], text: &mut [u8; LISTING_ROOM]) -> usize
     ensures value { (result ≡ length (Spec.printed input.now)) × (text.new ≡ Spec.printed_over input.now text.old) }
     ensures room { result ≤ length text.new }
 {
-    if input.len() < JUDGED_BYTES {
-        return put_listing(input, text);
-    }
-    put_listing(&input[..JUDGED_BYTES], text)
+    let mut page = Page::new();
+    put_listing(&input[..JUDGED_BYTES.min(input.len())], &mut page);
+    record::put_bytes(page.as_str().as_bytes(), 0, text);
+    page.len()
 }

@@ -1,14 +1,12 @@
--- `put_channel` meets its contract: four parts, one after the other. Assumes nothing.
-use borrow.Author.Rules.{rules}
-use Rattle.listing.proofs.Digits.{fits_two}
-use Rattle.listing.proofs.Puts.{then}
-use Rattle.listing.specs.Text.{channel_line}
+-- `put_channel` meets its contract: its sides are numbers of a listing. Assumes nothing.
+use Rattle.listing.specs.Text.{two, channel_line}
+use Rattle.listing.proofs.Digits.{sides_small}
+use Rattle.listing.proofs.Puts.{first_fits}
 use Rattle.listing.proofs.put_channel.Goals as goal
 
-pub put_two-end-requires : goal.put_two-end-requires
-put_two-end-requires c = fits_two _ _ _ _ (search rules)
-
-pub returns : goal.returns
+pub put_two-requires : goal.put_two-requires
 unfolding channel_line
-returns c =
-    record { put = then c.put_two-end.ensures.put (then c.put_word-end.ensures (then c.put_shifts-end.ensures.put c.put_word.ensures)); room = search rules }
+put_two-requires c =
+    let s = c.args.c in
+    let small = sides_small s c.requires.0 in
+    (small.0, small.1, first_fits _ (two s.width s.height) _ c.requires.1)

@@ -1,7 +1,9 @@
 -- `put_record` meets its contract: the record's refusal, or the lines of the steps that are meant and of the list that they leave (crate record,
 -- proofs/Reached.antt). Assumes nothing.
 use Rattle.std.proofs.Common.{rules, ◌≡◌, ◌∙◌, refl, sym}
+use mathlib.Core.Path.{ap}
 use native.Mathlib.Omega.{arith}
+use lib.ListN.{length}
 use Rattle.numbers.specs.Numbers.{answer_of, number_of}
 use Rattle.numbers.proofs.Refusals.{number_some}
 use Rattle.record.proofs.Reached.{form_refused, plan_judged, read_accepted, list_few, version_is, channels_are, meant_accepted, steps_are, coarse_accepted, coarse_is}
@@ -9,6 +11,7 @@ use Rattle.plan.specs.Version.{rule_of}
 use Rattle.plan.specs.Coarse.{coarse_count}
 use Rattle.listing.specs.Listing.{lines_text}
 use Rattle.listing.proofs.Outcomes.{coarse_within, listing_read}
+use Rattle.listing.proofs.Room.{reached_sides, listing_room_lem}
 use Rattle.listing.proofs.put_record.Goals as goal
 
 pub returns-in_err-form-clause-judged : goal.returns-in_err-form-clause-judged
@@ -33,9 +36,19 @@ returns-in_err-coarse-clause-judged c =
 
 pub put_plan-requires : goal.put_plan-requires
 put_plan-requires c =
-    let few = list_few c.args.bytes.now _ c.in_ok-form.ensures refl _ c.in_ok-reached.ensures refl in
-    let coarse = coarse_is c.args.bytes.now _ c.in_ok-form.ensures refl _ c.in_ok-reached.ensures refl _ c.in_ok-coarse.ensures in
-    (c.in_ok-meant.ensures.room, few, omega (arith, coarse, coarse_within (rule_of c.in_ok-form.form.version).stop c.in_ok-reached.reached few), c.requires)
+    let bytes = c.args.bytes.now in
+    let f = c.in_ok-form.ensures in
+    let r = c.in_ok-reached.ensures in
+    let few = list_few bytes _ f refl _ r refl in
+    let read = read_accepted bytes _ f refl _ r refl in
+    let list = channels_are bytes _ f refl _ r refl in
+    let steps = steps_are bytes _ f refl _ r refl _ c.in_ok-meant.ensures.value c.in_ok-meant.ensures.room in
+    let coarse = coarse_is bytes _ f refl _ r refl _ c.in_ok-coarse.ensures in
+    let version = version_is bytes _ f refl _ r refl in
+    let fit = rw (← list) at (reached_sides bytes read) in
+    let counted = coarse ∙ (λ i. coarse_count (rule_of (version i)).stop (list i)) in
+    let e = (λ i. lines_text (steps i) (list i) (counted i)) ∙ sym (listing_read bytes read) in
+    (c.in_ok-meant.ensures.room, few, fit, omega (arith, coarse, coarse_within (rule_of c.in_ok-form.form.version).stop c.in_ok-reached.reached few), omega (arith, ap length e, ap length c.requires, listing_room_lem bytes read))
 
 pub returns-clause-judged : goal.returns-clause-judged
 returns-clause-judged c = sym (read_accepted c.args.bytes.now _ c.in_ok-form.ensures refl _ c.in_ok-reached.ensures refl)
@@ -51,4 +64,4 @@ returns-clause-put c =
     let list = channels_are bytes _ f refl _ r refl in
     let counted = coarse ∙ (λ i. coarse_count (rule_of (version i)).stop (list i)) in
     let e = (λ i. lines_text (steps i) (list i) (counted i)) ∙ sym (listing_read bytes (read_accepted bytes _ f refl _ r refl)) in
-    rw (← e) c.put_plan.ensures
+    c.put_plan.ensures ∙ rw c.requires e
