@@ -11,6 +11,10 @@ if [ $# -eq 0 ]; then
 fi
 mkdir -p target/bench
 
+# callgrind counts `rep stosb` byte by byte, so the C library is told to set memory
+# without it.
+export GLIBC_TUNABLES=glibc.cpu.x86_rep_stosb_threshold=100000000:glibc.cpu.x86_rep_movsb_threshold=100000000
+
 # The count of `$1` rounds, by what callgrind says of the program.
 counted() {
     valgrind --tool=callgrind --callgrind-out-file=/dev/null target/bench/calls "$2" "$3" "$1" 2>&1 |
