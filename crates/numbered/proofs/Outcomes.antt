@@ -46,7 +46,7 @@ unfolding W.written_of
 written_answer version l s out = go (eqb (write_answer version l s out) 0) refl
   where
     go : (t : Bool) → eqb (write_answer version l s out) 0 ≡ t
-        → (cond {A = Written} t (record { answer = 0; length = length (record_for version l s) }) (record { answer = write_answer version l s out; length = 0 })).answer ≡ write_answer version l s out
+        → (cond {A = Written} t (record { answer = 0; size = length (record_for version l s) }) (record { answer = write_answer version l s out; size = 0 })).answer ≡ write_answer version l s out
     go true e = sym (eqb-true (write_answer version l s out) 0 e)
     go false e = refl
 
@@ -141,16 +141,16 @@ module _ (version : ℕ) (ns ms bytes len : List ℕ) (a : ℕ) (ea : a ≡ judg
         writes : write_answer version (list_of ns) (plan_by held ms) bytes ≡ 0
         writes = writer_answer ∙ ok
 
-        length_is : w.length ≡ length (bytes_of version ns ms)
+        length_is : w.size ≡ length (bytes_of version ns ms)
         length_is =
-            ap (λ (x : Written). x.length) (gave ∙ written_length version (list_of ns) (plan_by held ms) bytes writes)
+            ap (λ (x : Written). x.size) (gave ∙ written_length version (list_of ns) (plan_by held ms) bytes writes)
             ∙ ap length (record_is version ns ms (sym ea ∙ z))
 
         out_is : out ≡ bytes_of version ns ms ++ drop (length (bytes_of version ns ms)) bytes
         out_is = left ∙ rw (← record_is version ns ms (sym ea ∙ z)) (written_bytes_lem version (list_of ns) (plan_by held ms) bytes writes)
 
-        pub length_few : w.length ≤ record_room
+        pub length_few : w.size ≤ record_room
         length_few = omega (arith, length_is, bytes_few version ns ms (sym ea ∙ z))
 
-        pub writing_done : Results version ns ms bytes len 0 out (set len 0 w.length)
+        pub writing_done : Results version ns ms bytes len 0 out (set len 0 w.size)
         writing_done = rw (out_is, length_is, first_set len (length (bytes_of version ns ms)) (length_room ns ms len h)) (filled version ns ms bytes len (same_answer ∙ ok))

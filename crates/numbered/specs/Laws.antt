@@ -14,7 +14,7 @@ pub record AsWritten (version : ℕ) (ns ms bytes len : List ℕ) : Type 0 where
   pub answered : answer version ns ms bytes len ≡ (written_of version (list_of ns) (plan_of ms) bytes).answer
   pub written : record_after version ns ms bytes len ≡ written_bytes version (list_of ns) (plan_of ms) bytes
   pub told : length_after version ns ms bytes len
-      ≡ cond (eqb (written_of version (list_of ns) (plan_of ms) bytes).answer 0) ((written_of version (list_of ns) (plan_of ms) bytes).length ∷ drop 1 len) len
+      ≡ cond (eqb (written_of version (list_of ns) (plan_of ms) bytes).answer 0) ((written_of version (list_of ns) (plan_of ms) bytes).size ∷ drop 1 len) len
 
 -- where no number is left over and the length has room; the fields need no such condition, since the writer's definitions refuse what no field
 -- could hold, as the numbers' do

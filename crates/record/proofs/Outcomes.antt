@@ -88,12 +88,12 @@ module _ (bytes : List ℕ) (f : Record) (e : f ≡ packed_form (form_of bytes))
 
 -- ---- the writer, by its answer
 module _ (version : ℕ) (l : ChannelList) (s : Steps) (out : List ℕ) where
-  written_nothing : (a : ℕ) → write_answer version l s out ≡ a → (a ≡ 0 → ⊥) → (record { answer = a; length = 0 } ≡ written_of version l s out) × (out ≡ written_bytes version l s out)
+  written_nothing : (a : ℕ) → write_answer version l s out ≡ a → (a ≡ 0 → ⊥) → (record { answer = a; size = 0 } ≡ written_of version l s out) × (out ≡ written_bytes version l s out)
   unfolding written_of written_bytes
   written_nothing a e z = (rw (e, ne_eqb a 0 z), rw (e, ne_eqb a 0 z))
 
   module _ (e : write_answer version l s out ≡ 0) where
-    pub written_length : written_of version l s out ≡ record { answer = 0; length = length (record_for version l s) }
+    pub written_length : written_of version l s out ≡ record { answer = 0; size = length (record_for version l s) }
     unfolding written_of
     written_length = rw e
 
@@ -103,7 +103,7 @@ module _ (version : ℕ) (l : ChannelList) (s : Steps) (out : List ℕ) where
 
 -- a is the answer to questions 3 to 11
 module _ (version : ℕ) (l : ChannelList) (s : Steps) (a : ℕ) (ea : a ≡ judge_plan version l s) where
-  pub write_refused : (out : List ℕ) → (a ≡ 0 → ⊥) → (record { answer = a; length = 0 } ≡ written_of version l s out) × (out ≡ written_bytes version l s out)
+  pub write_refused : (out : List ℕ) → (a ≡ 0 → ⊥) → (record { answer = a; size = 0 } ≡ written_of version l s out) × (out ≡ written_bytes version l s out)
   unfolding write_answer
   write_refused out z = written_nothing version l s out a (rw (← ea, ne_eqb a 0 z)) z
 
@@ -141,7 +141,7 @@ module _ (version : ℕ) (l : ChannelList) (s : Steps) (a : ℕ) (ea : a ≡ jud
             )
 
         pub write_short : length out < first + size + step_size * s.count
-            → (record { answer = refused_length; length = 0 } ≡ written_of version l s out) × (out ≡ written_bytes version l s out)
+            → (record { answer = refused_length; size = 0 } ≡ written_of version l s out) × (out ≡ written_bytes version l s out)
         write_short h =
             written_nothing version l s out refused_length (write_answer_lem false (lt-leb (length (record_for version l s)) (length out) (omega (arith, record_size)))) (λ e. omega arith)
 
@@ -149,7 +149,7 @@ module _ (version : ℕ) (l : ChannelList) (s : Steps) (a : ℕ) (ea : a ≡ jud
           fits : write_answer version l s out ≡ 0
           fits = write_fits (omega (arith, record_size))
 
-          pub write_length : record { answer = 0; length = first + size + step_size * s.count } ≡ written_of version l s out
+          pub write_length : record { answer = 0; size = first + size + step_size * s.count } ≡ written_of version l s out
           write_length = sym (written_length version l s out fits ∙ rw record_size)
 
           -- the version's field, the channels' and the steps', each after the one before

@@ -20,13 +20,13 @@ pub record ReadWritten (version : ℕ) (l : ChannelList) (s : Steps) : Type 0 wh
   pub form : form_of (record_for version l s) ≡ record { answer = 0; version = version; channels = channels l; steps = steps s }
   pub read : read_of (record_for version l s) ≡ record { answer = 0; version = version; list = Lists.packed (channels l); steps = S.packed (steps s) }
   pub none : s.count ≡ 0 → (read_of (record_for version l s)).steps ≡ S.packed []
-  pub written : (out : List ℕ) → write_answer version l s out ≡ 0 → take (written_of version l s out).length (written_bytes version l s out) ≡ record_for version l s
+  pub written : (out : List ℕ) → write_answer version l s out ≡ 0 → take (written_of version l s out).size (written_bytes version l s out) ≡ record_for version l s
 
 -- bytes that were read: they are the record of what they gave, and the writer writes them back
 pub record WrittenRead (bytes : List ℕ) : Type 0 where
   pub form : record_of (form_of bytes).version (form_of bytes).channels (form_of bytes).steps ≡ bytes
   pub record_is : record_for (read_of bytes).version (read_of bytes).list (read_of bytes).steps ≡ bytes
-  pub length_is : (out : List ℕ) → length bytes ≤ length out → written_of (read_of bytes).version (read_of bytes).list (read_of bytes).steps out ≡ record { answer = 0; length = length bytes }
+  pub length_is : (out : List ℕ) → length bytes ≤ length out → written_of (read_of bytes).version (read_of bytes).list (read_of bytes).steps out ≡ record { answer = 0; size = length bytes }
   pub written : (out : List ℕ) → length bytes ≤ length out → written_bytes (read_of bytes).version (read_of bytes).list (read_of bytes).steps out ≡ bytes ++ drop (length bytes) out
 
 abbrev pub ReadWrittenLaw : Type 0

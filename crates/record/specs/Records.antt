@@ -63,8 +63,8 @@ write_answer version l s out =
 unfoldable pub written_of : ℕ → ChannelList → Steps → List ℕ → Written
 written_of version l s out =
     cond (eqb (write_answer version l s out) 0)
-    (record { answer = 0; length = length (record_for version l s) })
-    (record { answer = write_answer version l s out; length = 0 })
+    (record { answer = 0; size = length (record_for version l s) })
+    (record { answer = write_answer version l s out; size = 0 })
 
 -- the slice afterwards
 unfoldable pub written_bytes : ℕ → ChannelList → Steps → List ℕ → List ℕ

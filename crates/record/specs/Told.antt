@@ -19,11 +19,11 @@ abbrev pub record_told : Result Form Refusal → Record
 record_told (Ok f) = record { answer = 0; version = f.version; list = f.list; steps = f.steps }
 record_told (Err refusal) = record { answer = number_of refusal; version = 0; list = Lists.packed []; steps = S.packed [] }
 
--- the answer 0 with the record's length, or a refusal's number and 0
+-- the answer 0 with the bytes that the record takes, or a refusal's number and 0
 pub record Written : Type 0 where
   pub answer : ℕ
-  pub length : ℕ
+  pub size : ℕ
 
 abbrev pub written_told : Result ℕ Refusal → Written
-written_told (Ok length) = record { answer = 0; length = length }
-written_told (Err refusal) = record { answer = number_of refusal; length = 0 }
+written_told (Ok size) = record { answer = 0; size = size }
+written_told (Err refusal) = record { answer = number_of refusal; size = 0 }
