@@ -1,8 +1,9 @@
 // 32-bit sample arithmetic: sums that wrap, the wrapped absolute value, half
-// toward zero, and the upper half of a product. The methods that wrap are std's.
-// They stand here under clauses in the definitions' words, by which the check
-// finds the proofs of tendency and pair alone; called there directly, they leave
-// goals on bits that it does not find. Total: nothing is asked of a caller.
+// toward zero, the upper half of a product, the lowest bit, and the sample of 32
+// bits. What wraps or takes bits as they are is std's method. It stands here under
+// clauses in the definitions' words, by which the check finds the proofs of tendency
+// and pair alone; called there directly, it leaves goals on bits that the check does
+// not find. Total: nothing is asked of a caller.
 #![tactic(auto)]
 
 ghost use Rattle.std.specs.Prelude.{◌≡◌, pos};

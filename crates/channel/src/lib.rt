@@ -7,7 +7,7 @@ ghost use Rattle.channel.specs.Channel as Spec;
 
 use numbers::MAX_SIDE;
 
-#[derive(Clone, Copy, PartialEq, Eq, Debug)]
+#[derive(Clone, Copy, PartialEq, Eq, Debug, Default)]
 pub struct Channel {
     pub width: u32,
     pub height: u32,

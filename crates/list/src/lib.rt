@@ -31,7 +31,7 @@ pub struct ChannelList {
 }
 
 // A squeeze step (the Rust's `SqueezeParams`).
-#[derive(Clone, Copy, PartialEq, Eq, Debug)]
+#[derive(Clone, Copy, PartialEq, Eq, Debug, Default)]
 pub struct Step {
     pub horizontal: bool,
     pub inplace: bool,
@@ -40,15 +40,18 @@ pub struct Step {
 }
 
 impl Step {
+    // The index behind its last channel.
+    pub fn end(self) -> usize
+        ensures { result ≡ self.begin + self.number }
+    {
+        self.begin as usize + self.number as usize
+    }
+
     // Where its residuals start in the list that it leaves of one of `count` channels.
     pub fn residuals_at(self, count: usize) -> usize
         ensures { result ≡ cond self.inplace (self.begin + self.number) count }
     {
-        if self.inplace {
-            self.begin as usize + self.number as usize
-        } else {
-            count
-        }
+        if self.inplace { self.end() } else { count }
     }
 }
 
@@ -193,12 +196,7 @@ impl ChannelList {
         ensures { result ≡ Lists.channel_at self.now k }
     {
         if ChannelList::MAX_CHANNELS <= k {
-            return Channel {
-                width: 0,
-                height: 0,
-                hshift: 0,
-                vshift: 0,
-            };
+            return Channel::default();
         }
         Channel {
             width: self.widths[k],
@@ -244,8 +242,7 @@ impl ChannelList {
     fn range_allowed(&self, step: Step) -> bool
         ensures { result ≡ (leb 1 step.number && leb (step.begin + step.number) (min self.now.count Lists.max_channels)) }
     {
-        let end = step.begin as usize + step.number as usize;
-        (1 <= step.number) & (end <= self.len())
+        (1 <= step.number) & (step.end() <= self.len())
     }
 
     // Question 8: of the first and the last of a range.
@@ -253,9 +250,9 @@ impl ChannelList {
         requires { 1 ≤ step.number }
         ensures { result ≡ Questions.alike (is_meta (Lists.channel_at self.now step.begin)) (is_meta (Lists.channel_at self.now (step.begin + step.number - 1))) }
     {
-        let first = step.begin as usize;
-        let last = first + step.number as usize - 1;
-        self.channel(first).is_meta() == self.channel(last).is_meta()
+        let first = self.channel(step.begin as usize);
+        let last = self.channel(step.end() - 1);
+        first.is_meta() == last.is_meta()
     }
 
     // Question 9.
@@ -265,23 +262,21 @@ impl ChannelList {
         !self.channel(step.begin as usize).is_meta() | step.inplace
     }
 
-    // Question 10.
+    // Question 10. Not one function with `range_keeps_shifts` over a closure: its clause
+    // would have to say what the closure gives of each channel of the range, which is
+    // all that these two say.
     fn range_has_sides(&self, step: Step) -> bool
         ensures { result ≡ all Questions.has_sides (table (Lists.channel_at self.now) step.begin step.number) }
     {
-        let begin = step.begin as usize;
-        (begin..begin + step.number as usize).all(|k| has_sides(self.channel(k)))
+        (step.begin as usize..step.end()).all(|k| has_sides(self.channel(k)))
     }
 
     // Question 11, of the shifts.
     fn range_keeps_shifts(&self, step: Step) -> bool
         ensures { result ≡ all (Questions.shifts_kept step.horizontal) (table (Lists.channel_at self.now) step.begin step.number) }
     {
-        let begin = step.begin as usize;
-        (begin..begin + step.number as usize).all(|k| keeps_shifts(
-            self.channel(k),
-            step.horizontal,
-        ))
+        let horizontal = step.horizontal;
+        (step.begin as usize..step.end()).all(|k| keeps_shifts(self.channel(k), horizontal))
     }
 
     // Questions 7 to 11, of a step on the list.

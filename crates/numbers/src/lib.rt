@@ -1,5 +1,5 @@
-// What more than one crate uses: two limits, and the refusals. Each answer of a call
-// is 0 or the number of its refusal; specs/Numbers.antt has the numbers.
+// What more than one crate uses: two limits, and the refusals, each with its number.
+// What a call answers is 0 or the number of its refusal.
 #![tactic(auto)]
 
 ghost use Rattle.std.specs.Prelude.{◌≡◌};
@@ -15,56 +15,41 @@ pub const MAX_SAMPLES: usize = 16_777_216;
 #[derive(Clone, Copy, PartialEq, Eq, Debug)]
 pub enum Refusal {
     // A field's head or its stated length lies past the bytes.
-    Outside,
+    Outside = 1,
     // The tag is unknown, the length is not its own, or a channel follows a step.
-    Field,
+    Field = 2,
     // No channel, too many channels or too many steps.
-    Count,
+    Count = 3,
     // A shift, a side, a flag or a version that is not allowed, or a meta channel
     // after another.
-    Form,
+    Form = 4,
     // Too many samples.
-    Samples,
+    Samples = 5,
     // A default plan of meta channels alone.
-    Default,
+    Default = 11,
     // A step's range is empty or ends past the list.
-    Range,
+    Range = 6,
     // Meta channels and others in one range.
-    Kinds,
+    Kinds = 7,
     // Meta channels, and the step is not in place.
-    Place,
+    Place = 8,
     // A channel of the range without a sample.
-    Empty,
+    Empty = 9,
     // Too many channels after the step, or a shift above the limit.
-    Room,
+    Room = 10,
     // The sizes of a tile call do not fit together.
-    Sizes,
+    Sizes = 13,
     // A rectangle of that kind or group dimension is not told.
-    Tile,
+    Tile = 14,
     // A slice has not the length that it needs.
-    Length,
+    Length = 12,
 }
 
 impl Refusal {
     pub fn number(self) -> u32
         ensures { result ≡ Numbers.number_of self }
     {
-        match self {
-            Refusal::Outside => 1,
-            Refusal::Field => 2,
-            Refusal::Count => 3,
-            Refusal::Form => 4,
-            Refusal::Samples => 5,
-            Refusal::Default => 11,
-            Refusal::Range => 6,
-            Refusal::Kinds => 7,
-            Refusal::Place => 8,
-            Refusal::Empty => 9,
-            Refusal::Room => 10,
-            Refusal::Sizes => 13,
-            Refusal::Tile => 14,
-            Refusal::Length => 12,
-        }
+        self as u32
     }
 }
 

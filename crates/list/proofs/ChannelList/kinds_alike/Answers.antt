@@ -12,4 +12,4 @@ same false false = refl
 
 pub returns : goal.returns
 returns c =
-    rw (← c.channel.ensures, ← c.channel-2.ensures, ← c.is_meta.ensures, ← c.is_meta-2.ensures) (same c.is_meta.result c.is_meta-2.result)
+    rw (← c.end.ensures, ← c.channel-first.ensures, ← c.channel-last.ensures, ← c.is_meta.ensures, ← c.is_meta-2.ensures) (same c.is_meta.result c.is_meta-2.result)

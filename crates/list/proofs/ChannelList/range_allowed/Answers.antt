@@ -2,4 +2,4 @@
 use Rattle.list.proofs.ChannelList.range_allowed.Goals as goal
 
 pub returns : goal.returns
-returns c = rw c.len.ensures
+returns c = rw (c.end.ensures, c.len.ensures)

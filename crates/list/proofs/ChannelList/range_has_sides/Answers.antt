@@ -10,7 +10,8 @@ use Rattle.list.proofs.ChannelList.range_has_sides.Goals as goal
 pub returns : goal.returns
 returns c =
     let s = c.args.step in
-    let n : s.begin + s.number - s.begin ≡ s.number = omega arith in
-    all_from_yields_List (λ k. has_sides (channel_at c.args.self.now k)) _ _ _ c.all.ensures.ran (YieldsList-from_range s.begin (s.begin + s.number) s.number refl n)
+    let e : c.end.result ≡ s.begin + s.number = c.end.ensures in
+    let n : c.end.result - s.begin ≡ s.number = omega arith in
+    all_from_yields_List (λ k. has_sides (channel_at c.args.self.now k)) _ _ _ c.all.ensures.ran (YieldsList-from_range s.begin c.end.result s.number refl n)
     (λ x b q k. search (rules, tests))
     ∙ all_ranged (channel_at c.args.self.now) has_sides s.begin s.number
