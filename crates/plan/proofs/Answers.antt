@@ -13,12 +13,13 @@ use Rattle.list.specs.declared.ChannelList.{ChannelList}
 use Rattle.list.specs.declared.Step.{Step}
 use Rattle.list.specs.Questions.{Stepped}
 use Rattle.list.specs.Tables.{all}
-use Rattle.list.specs.Lists.{max_steps, channels}
+use Rattle.list.specs.Lists.{max_channels, max_steps, channels}
 use Rattle.numbers.specs.Numbers.{refused_default}
 use Rattle.list.specs.Questions.{ask, count_allowed, channels_allowed, judge_list}
+use Rattle.list.proofs.Channels.{channels_length}
 use Rattle.list.proofs.Tables.{table_length}
 use Rattle.list.proofs.Asking.{passed}
-use Rattle.list.proofs.Acceptance.{count_inside, list_accepted, held_accepted}
+use Rattle.list.proofs.Acceptance.{list_accepted, held_accepted}
 use Rattle.plan.specs.Plans.{Planned}
 use Rattle.plan.specs.declared.Steps.{Steps}
 use Rattle.plan.specs.Steps as S
@@ -27,7 +28,6 @@ use Rattle.plan.specs.Default.{meta_count, default_steps}
 use Rattle.plan.specs.Plans.{judge_form, has_other, meant, meant_allowed, judge_meant, judge_plan, judge_steps, outcome, ran, rewritten, offer, judge_meaning, meant_steps}
 use Rattle.plan.proofs.Packed.{packed_count, steps_packed}
 use Rattle.plan.proofs.Runs.{none_refused, plan_accepted}
-use Rattle.plan.proofs.Counts.{counted_all}
 
 -- ---- an answer beside steps
 offer_answer : (a : ℕ) (s : Steps) → (offer a s).answer ≡ a
@@ -83,16 +83,16 @@ module _ (version : ℕ) (l : ChannelList) (s : Steps) where
 
       -- no steps: m is the count of meta channels, d the default plan or no step
       module _ (z : s.count ≡ 0) (m : ℕ) (d : Steps) (em : m ≡ meta_count (channels l)) where
-        long : length (channels l) ≡ l.count
-        long = counted_all l (count_inside l (form_accepted (sym ea ∙ ok)).0).1
+        long : length (channels l) ≡ min l.count max_channels
+        long = channels_length l
 
-        pub meant_none : l.count ≤ m → d ≡ S.packed [] → record { answer = 11; steps = d } ≡ meant_steps version l s
+        pub meant_none : min l.count max_channels ≤ m → d ≡ S.packed [] → record { answer = 11; steps = d } ≡ meant_steps version l s
         unfolding meant_steps judge_meaning meant_allowed has_other
-        meant_none h ed = rw (← ea, eq-eqb a 0 ok, none z, long, ← em, le-ltb m l.count h, ed)
+        meant_none h ed = rw (← ea, eq-eqb a 0 ok, none z, long, ← em, le-ltb m (min l.count max_channels) h, ed)
 
-        pub meant_default : m < l.count → d ≡ S.packed (default_steps (rule_of version) (channels l)) → record { answer = 0; steps = d } ≡ meant_steps version l s
+        pub meant_default : m < min l.count max_channels → d ≡ S.packed (default_steps (rule_of version) (channels l)) → record { answer = 0; steps = d } ≡ meant_steps version l s
         unfolding meant_steps judge_meaning meant_allowed has_other
-        meant_default h ed = rw (← ea, eq-eqb a 0 ok, none z, long, ← em, lt-ltb m l.count h, eq-eqb s.count 0 z, ed)
+        meant_default h ed = rw (← ea, eq-eqb a 0 ok, none z, long, ← em, lt-ltb m (min l.count max_channels) h, eq-eqb s.count 0 z, ed)
 
   -- ---- and the list that they leave
   -- questions 3 to 11 are 3 to 6, then 7 to 11 of the steps that are meant

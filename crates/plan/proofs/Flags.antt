@@ -1,7 +1,7 @@
 -- "other flag bits 0" (question 4), put by the library's test of every index. Assumes nothing.
 use mathlib.Core.Bool.{Bool, true, false, ◌&&◌}
 use mathlib.Core.Path.{◌≡◌, refl, sym, ap, ◌∙◌}
-use Prim.Native.Nat.{ℕ, zero, suc, ◌≤◌, min}
+use Prim.Native.Nat.{ℕ, zero, suc, min}
 use native.Mathlib.Omega.{arith}
 use native.Mathlib.Numerals.{add-one}
 use lib.Dec.{leb, ltb}
@@ -29,6 +29,6 @@ pub three_ranged : (f : ℕ → ℕ) (k n : ℕ) → list_all (λ j. leb (f j) 3
 three_ranged f k zero = refl
 three_ranged f k (suc n) = rw (add-one, three (f k)) (ap (λ (b : Bool). flags_allowed (f k) && b) (three_ranged f (suc k) n))
 
-pub flags_ranged : (s : Steps) → s.count ≤ max_steps → list_all (λ j. leb (flags_at s j) 3) (range_with_len 0 s.count) ≡ all flags_allowed (all_flags s)
+pub flags_ranged : (s : Steps) (n : ℕ) → n ≡ min s.count max_steps → list_all (λ j. leb (flags_at s j) 3) (range_with_len 0 n) ≡ all flags_allowed (all_flags s)
 unfolding all_flags
-flags_ranged s h = let z : min s.count max_steps ≡ s.count = omega arith in three_ranged (flags_at s) 0 s.count ∙ rw z
+flags_ranged s n e = three_ranged (flags_at s) 0 n ∙ rw e

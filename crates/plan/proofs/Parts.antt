@@ -1,9 +1,9 @@
 -- The parts of the default plan (specs/Default.antt) as code makes them: the vertical step that goes first with the turns of the halved side, and
 -- the chroma's steps each under its own test. Assumes nothing.
 use mathlib.Core.Bool.{Bool, true, false, cond, ◌&&◌, and-false}
-use mathlib.Core.Path.{◌≡◌, refl, ap, ◌∙◌}
+use mathlib.Core.Path.{◌≡◌, refl, sym, ap, ◌∙◌}
 use mathlib.Core.List.{List, [], ◌∷◌, ◌++◌}
-use Prim.Native.Nat.{ℕ, ◌+◌, ◌-◌, ◌<◌, ◌≤◌}
+use Prim.Native.Nat.{ℕ, ◌+◌, ◌-◌, ◌<◌, ◌≤◌, min}
 use native.Mathlib.Omega.{arith}
 use lib.Dec.{eqb, leb, ltb}
 use lib.ListN.{length}
@@ -15,11 +15,10 @@ use Rattle.list.specs.declared.Step.{Step}
 use Rattle.list.specs.Lists.{max_channels, max_steps, channel_at, channels, halved}
 use Rattle.list.specs.Tables.{all}
 use Rattle.list.specs.Questions.{channel_of}
-use Rattle.list.proofs.Channels.{channels_at}
+use Rattle.list.proofs.Channels.{channels_length, channels_at}
 use Rattle.list.proofs.Maps.{all_at}
 use Rattle.plan.specs.declared.DefaultRule.{DefaultRule}
 use Rattle.plan.specs.Default.{meta_count, when, step, chroma, rounds, all_channels, default_steps}
-use Rattle.plan.proofs.Counts.{counted_all}
 use Rattle.plan.proofs.Turns.{rounds_enough}
 use Rattle.plan.proofs.Length.{when_length, default_fits}
 
@@ -86,32 +85,35 @@ chroma_second wanted m n w h x y same = go (ltb 2 n) refl
     go true e = ap (λ (second : Channel). shown second true) (same (ltb-true 2 n e))
     go false e = rw (and-false wanted)
 
--- ---- the default plan of flat arrays, from the entries at m and m + 1
-abbrev pub first_part : Bool → ChannelList → ℕ → Channel → Channel → List Step
-first_part wanted l m first second = chroma wanted m (l.count - m) first.width first.height second
+-- ---- the default plan of flat arrays with `count` channels, from the entries at m and m + 1
+abbrev pub first_part : Bool → ℕ → ℕ → Channel → Channel → List Step
+first_part wanted count m first second = chroma wanted m (count - m) first.width first.height second
 
-abbrev pub second_part : ℕ → ChannelList → ℕ → Channel → List Step
-second_part stop l m first = all_channels stop m (l.count - m) first.width first.height
+abbrev pub second_part : ℕ → ℕ → ℕ → Channel → List Step
+second_part stop count m first = all_channels stop m (count - m) first.width first.height
 
-pub record Parted (rule : DefaultRule) (l : ChannelList) (m : ℕ) (first second : Channel) : Type 0 where
-  pub so : first_part rule.chroma l m first second ++ second_part rule.stop l m first ≡ default_steps rule (channels l)
-  pub room : length (first_part rule.chroma l m first second ++ second_part rule.stop l m first) ≤ max_steps
+pub record Parted (rule : DefaultRule) (l : ChannelList) (count m : ℕ) (first second : Channel) : Type 0 where
+  pub so : first_part rule.chroma count m first second ++ second_part rule.stop count m first ≡ default_steps rule (channels l)
+  pub room : length (first_part rule.chroma count m first second ++ second_part rule.stop count m first) ≤ max_steps
 
-module _ (l : ChannelList) (inside : l.count ≤ max_channels) (sides : all sides_fit (channels l) ≡ true) (m : ℕ) (first second : Channel) (em : m ≡ meta_count (channels l)) (some : m < l.count) (e₁ : first ≡ channel_at l m) (e₂ : second ≡ channel_at l (m + 1)) where
-  parts_so : (rule : DefaultRule) → first_part rule.chroma l m first second ++ second_part rule.stop l m first ≡ default_steps rule (channels l)
+module _ (l : ChannelList) (sides : all sides_fit (channels l) ≡ true) (count m : ℕ) (first second : Channel) (en : count ≡ min l.count max_channels) (em : m ≡ meta_count (channels l)) (some : m < count) (e₁ : first ≡ channel_at l m) (e₂ : second ≡ channel_at l (m + 1)) where
+  long : length (channels l) ≡ count
+  long = channels_length l ∙ sym en
+
+  parts_so : (rule : DefaultRule) → first_part rule.chroma count m first second ++ second_part rule.stop count m first ≡ default_steps rule (channels l)
   unfolding default_steps
   parts_so rule =
-      let long = counted_all l inside in
-      let n = l.count - m in
+      let l' = long in
+      let n = count - m in
       let w = (channel_at l m).width in
       let h = (channel_at l m).height in
-      rw (← em, long, ← (channels_at l m (omega arith)), e₁)
+      rw (← em, l', ← (channels_at l m (omega arith)), e₁)
       (ap (λ (ss : List Step). ss ++ all_channels rule.stop m n w h)
       (chroma_second rule.chroma m n w h second (channel_of (channels l) (m + 1)) (λ many. e₂ ∙ channels_at l (m + 1) (omega arith))))
 
   -- no side is above the limit, so the plan has room
-  pub parted : (rule : DefaultRule) → 1 ≤ rule.stop → Parted rule l m first second
+  pub parted : (rule : DefaultRule) → 1 ≤ rule.stop → Parted rule l count m first second
   parted rule one =
-      let long = counted_all l inside in
+      let l' = long in
       let fit = all_at sides_fit (channels l) (meta_count (channels l)) _ sides (omega arith) in
       record { so = parts_so rule; room = rw (parts_so rule) (default_fits rule (channels l) one fit) }

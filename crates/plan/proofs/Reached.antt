@@ -28,10 +28,10 @@ use Rattle.plan.specs.Plans.{judge_steps, stepped_all, origins_all, origins_left
 
 -- ---- the list `now` is reached, and the steps from k on are left
 abbrev left : Steps → ℕ → List Step
-left s k = table (step_at s) k (s.count - k)
+left s k = table (step_at s) k (min s.count max_steps - k)
 
 pub record Reached (l : ChannelList) (s : Steps) (now : ChannelList) (k : ℕ) : Type 0 where
-  pub inside : k ≤ s.count
+  pub inside : k ≤ min s.count max_steps
   pub ok : Accepted (channels now)
   pub tidy : now ≡ holding (channels now) (origins now)
   pub judged : judge_steps (left s k) (channels now) ≡ judge_steps (steps s) (channels l)
@@ -40,7 +40,7 @@ pub record Reached (l : ChannelList) (s : Steps) (now : ChannelList) (k : ℕ) :
 
 module _ (l : ChannelList) (s : Steps) where
   -- arrays that hold accepted channels
-  held_reached : (k : ℕ) (now : ChannelList) (cs : List Channel) (os : List ℕ) → k ≤ s.count → Accepted cs → length os ≡ length cs → now ≡ holding cs os
+  held_reached : (k : ℕ) (now : ChannelList) (cs : List Channel) (os : List ℕ) → k ≤ min s.count max_steps → Accepted cs → length os ≡ length cs → now ≡ holding cs os
       → judge_steps (left s k) cs ≡ judge_steps (steps s) (channels l) → stepped_all (left s k) cs ≡ stepped_all (steps s) (channels l)
       → origins_all (left s k) os ≡ origins_left (steps s) (channels l) → Reached l s now k
   held_reached k now cs os h a n e j r o =
@@ -55,16 +55,16 @@ module _ (l : ChannelList) (s : Steps) where
         origined = rw from o;
       }
 
-  pub reached_none : judge_list l ≡ 0 → s.count ≤ max_steps → (now : ChannelList) → now ≡ packed (channels l) → Reached l s now 0
+  pub reached_none : judge_list l ≡ 0 → (now : ChannelList) → now ≡ packed (channels l) → Reached l s now 0
   unfolding steps
-  reached_none ok room now e =
-      let z : s.count - 0 ≡ min s.count max_steps = omega arith in
+  reached_none ok now e =
+      let z : min s.count max_steps - 0 ≡ min s.count max_steps = omega arith in
       held_reached 0 now (channels l) _ (omega arith) (list_accepted l ok) (own_length _) e (rw z) (rw z) (rw z)
 
   -- step x is the one at k, and t what the list makes of it
-  module _ (now : ChannelList) (k : ℕ) (w : Reached l s now k) (h : k < s.count) (x : Step) (ex : x ≡ step_at s k) (t : Stepped) (et : t ≡ taken_on x now) where
+  module _ (now : ChannelList) (k : ℕ) (w : Reached l s now k) (h : k < min s.count max_steps) (x : Step) (ex : x ≡ step_at s k) (t : Stepped) (et : t ≡ taken_on x now) where
     split : left s k ≡ x ∷ left s (k + 1)
-    split = rw ex (table_rest (step_at s) k s.count h)
+    split = rw ex (table_rest (step_at s) k (min s.count max_steps) h)
 
     answered : t.answer ≡ judge_step x (channels now)
     answered = ap (λ (u : Stepped). u.answer) et ∙ on_answer x now
@@ -91,10 +91,10 @@ module _ (l : ChannelList) (s : Steps) where
         (rw split at w.stepped)
         (rw split at w.origined)
 
-  pub reached_all : (now : ChannelList) (k : ℕ) → s.count ≤ k → Reached l s now k → record { answer = 0; list = now } ≡ ran (steps s) l
+  pub reached_all : (now : ChannelList) (k : ℕ) → min s.count max_steps ≤ k → Reached l s now k → record { answer = 0; list = now } ≡ ran (steps s) l
   unfolding outcome ran
   reached_all now k h w =
-      let none = table_none (step_at s) k s.count h in
+      let none = table_none (step_at s) k (min s.count max_steps) h in
       let j : 0 ≡ judge_steps (steps s) (channels l) = rw none at w.judged in
       let r : channels now ≡ stepped_all (steps s) (channels l) = rw none at w.stepped in
       let o : origins now ≡ origins_left (steps s) (channels l) = rw none at w.origined in

@@ -9,6 +9,7 @@ use Rattle.list.specs.declared.Step.{Step}
 use Rattle.list.specs.Lists.{max_steps, channels, own_positions, holding, stepped, stepped_origins}
 use Rattle.list.specs.Tables.{all}
 use Rattle.list.specs.Questions.{Stepped, ask, count_allowed, channels_allowed, total_allowed, judge_step}
+use Rattle.plan.specs.declared.Plan.{Plan}
 use Rattle.plan.specs.declared.Steps.{Steps}
 use Rattle.plan.specs.Steps as S
 use Rattle.plan.specs.Steps.{steps, all_flags, flags_allowed}
@@ -66,6 +67,11 @@ judge_plan version l s =
 -- the answer 0 with the list that is reached, or a refusal's number with the list as it came
 unfoldable pub outcome : ℕ → ChannelList → ChannelList → Stepped
 outcome answer l reached = cond (eqb answer 0) (record { answer = 0; list = reached }) (record { answer = answer; list = l })
+
+-- the same of what a function gives that plans for the list l
+abbrev pub reached_of : ChannelList → Result Plan Refusal → Stepped
+reached_of l (Ok plan) = record { answer = 0; list = plan.reached }
+reached_of l (Err refusal) = record { answer = number_of refusal; list = l }
 
 -- steps on a list that questions 3 to 5 accept
 unfoldable pub ran : List Step → ChannelList → Stepped

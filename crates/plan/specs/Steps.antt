@@ -16,15 +16,19 @@ flags_of s = bit s.horizontal 1 + bit s.inplace 2
 unfoldable pub flags_allowed : ℕ → Bool
 flags_allowed flags = ltb flags 4
 
+-- the step with these flags, of which two bits tell
+abbrev pub step_of : ℕ → ℕ → ℕ → Step
+step_of flags begin number =
+    record {
+      horizontal = eqb (flags % 2) 1;
+      inplace = eqb (flags / 2 % 2) 1;
+      begin = begin;
+      number = number;
+    }
+
 -- entry k of the arrays
 abbrev pub step_at : Steps → ℕ → Step
-step_at s k =
-    record {
-      horizontal = eqb (get_or s.flags k 0 % 2) 1;
-      inplace = eqb (get_or s.flags k 0 / 2 % 2) 1;
-      begin = get_or s.begins k 0;
-      number = get_or s.numbers k 0;
-    }
+step_at s k = step_of (get_or s.flags k 0) (get_or s.begins k 0) (get_or s.numbers k 0)
 
 -- the steps that are meant: the first `count`; nothing else of the arrays is
 unfoldable pub steps : Steps → List Step

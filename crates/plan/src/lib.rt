@@ -3,7 +3,7 @@
 // either version, the run of a plan over a list, and the coarse count. Total.
 #![tactic(auto)]
 
-ghost use Rattle.std.specs.Prelude.{◌≡◌, true, [], ◌+◌, ◌<◌, ◌≤◌, length, IfOk};
+ghost use Rattle.std.specs.Prelude.{◌≡◌, true, [], ◌+◌, ◌<◌, ◌≤◌, length, min, IfOk, Ok};
 ghost use Rattle.numbers.specs.Numbers.{answer_of};
 ghost use Rattle.channel.specs.Channel.{sides_fit};
 ghost use Rattle.list.specs.Tables.{all};
@@ -39,6 +39,13 @@ pub struct Form {
     pub steps: Steps,
 }
 
+// What a form comes to: the steps that are meant, and the list that they leave.
+#[derive(Clone, Copy, PartialEq, Eq, Debug)]
+pub struct Plan {
+    pub steps: Steps,
+    pub reached: ChannelList,
+}
+
 // What a plan version says of its default plan: the side at which it stops, up
 // to which a channel that is not meta is coarse, and whether it has chroma steps
 // first.
@@ -63,6 +70,18 @@ pub fn flags_of(step: Step) -> u8
     ensures { result ≡ Spec.flags_of step }
 {
     (step.horizontal as u8) + 2 * (step.inplace as u8)
+}
+
+// The step with these flags, of which two bits tell.
+pub fn step_of(flags: u32, begin: u16, number: u16) -> Step
+    ensures { result ≡ Spec.step_of flags begin number }
+{
+    Step {
+        horizontal: flags % 2 == 1,
+        inplace: flags / 2 % 2 == 1,
+        begin,
+        number,
+    }
 }
 
 impl Steps {
@@ -90,20 +109,16 @@ impl Steps {
         ensures { result ≡ Spec.step_at self.now k }
     {
         if ChannelList::MAX_STEPS <= k {
-            return Step {
-                horizontal: false,
-                inplace: false,
-                begin: 0,
-                number: 0,
-            };
+            return Step::default();
         }
-        let flags = self.flags[k];
-        Step {
-            horizontal: flags % 2 == 1,
-            inplace: flags / 2 % 2 == 1,
-            begin: self.begins[k],
-            number: self.numbers[k],
-        }
+        step_of(self.flags[k] as u32, self.begins[k], self.numbers[k])
+    }
+
+    // How many steps are meant.
+    pub fn len(&self) -> usize
+        ensures { result ≡ min self.now.count max_steps }
+    {
+        self.count.min(ChannelList::MAX_STEPS)
     }
 
     // `step` after the last one; where there is no room nothing changes.
@@ -119,6 +134,8 @@ impl Steps {
         }
     }
 
+    // The step where the plan has it: a plan's rules are tests of sides, which this
+    // takes from its callers.
     fn push_if(&mut self, test: bool, step: Step)
         requires { self.old.count + length (Default.when test step) ≤ max_steps }
         ensures { self.new ≡ appended self.old (Default.when test step) }
@@ -130,10 +147,9 @@ impl Steps {
 
     // Question 4, of the steps' flags.
     fn flags_allowed(&self) -> bool
-        requires { self.now.count ≤ max_steps }
         ensures { result ≡ all Spec.flags_allowed (Spec.all_flags self.now) }
     {
-        (0..self.count).all(|k| self.flags[k] <= Steps::ALL_FLAGS)
+        (0..self.len()).all(|k| self.flags[k] <= Steps::ALL_FLAGS)
     }
 }
 
@@ -279,7 +295,7 @@ pub fn coarse_count(version: u32, list: &ChannelList) -> Result<usize, Refusal>
 // The default plan of a list with a channel that is not meta and no side above
 // the limit.
 fn default_steps(rule: DefaultRule, list: &ChannelList) -> Steps
-    requires { (1 ≤ rule.stop) × (list.now.count ≤ max_channels) × (Default.meta_count (channels list.now) < list.now.count) × (all sides_fit (channels list.now) ≡ true) }
+    requires { (1 ≤ rule.stop) × (Default.meta_count (channels list.now) < min list.now.count max_channels) × (all sides_fit (channels list.now) ≡ true) }
     ensures value { result ≡ Spec.packed (Default.default_steps rule (channels list.now)) }
     ensures room { result.count ≤ max_steps }
 {
@@ -287,7 +303,7 @@ fn default_steps(rule: DefaultRule, list: &ChannelList) -> Steps
     let first = list.channel(k);
     let others = Others {
         begin: k as u16,
-        number: (list.count - k) as u16,
+        number: (list.len() - k) as u16,
         width: first.width,
         height: first.height,
     };
@@ -299,11 +315,10 @@ fn default_steps(rule: DefaultRule, list: &ChannelList) -> Steps
 
 // The list with its unused entries 0, each channel's own position as its origin.
 fn tidied(list: &ChannelList) -> ChannelList
-    requires { list.now.count ≤ max_channels }
     ensures { result ≡ packed (channels list.now) }
 {
     let mut tidy = ChannelList::empty();
-    for k in 0..list.count {
+    for k in 0..list.len() {
         tidy.push(list.channel(k), k as u8);
     }
     tidy
@@ -312,18 +327,19 @@ fn tidied(list: &ChannelList) -> ChannelList
 // Questions 7 to 11 of each step on a list that passes questions 3 to 5, and
 // the list that the steps leave.
 fn run(list: &ChannelList, steps: &Steps) -> Result<ChannelList, Refusal>
-    requires { (judge_list list.now ≡ 0) × (steps.now.count ≤ max_steps) }
+    requires { judge_list list.now ≡ 0 }
     ensures { stepped_of list.now result ≡ Plans.ran (Spec.steps steps.now) list.now }
 {
     let mut now = tidied(list);
-    for k in 0..steps.count {
+    for k in 0..steps.len() {
         now = now.step_on(steps.step(k))?;
     }
     Ok(now)
 }
 
 impl Form {
-    // Questions 3 to 5.
+    // Questions 3 to 5: each is put to the list and to the plan before the next, so that
+    // the list is not judged first by itself.
     fn judge(&self) -> Result<(), Refusal>
         ensures { answer_of result ≡ Plans.judge_form self.now.version self.now.list self.now.steps }
     {
@@ -351,18 +367,29 @@ impl Form {
         if self.steps.count != 0 {
             return Ok(self.steps);
         }
-        if self.list.count <= meta_count(&self.list) {
+        if self.list.len() <= meta_count(&self.list) {
             return Err(Refusal::Default);
         }
         Ok(default_steps(DefaultRule::of(self.version), &self.list))
     }
 
-    // The list that the plan leaves, by questions 3 to 11.
+    // The steps that are meant and the list that they leave, by questions 3 to 11.
+    pub fn plan(&self) -> Result<Plan, Refusal>
+        ensures reached { Plans.reached_of self.now.list result ≡ Plans.rewritten self.now.version self.now.list self.now.steps }
+        ensures meant { IfOk result (λ plan. Plans.planned_of (Ok plan.steps) ≡ Plans.meant_steps self.now.version self.now.list self.now.steps) }
+        ensures room { IfOk result (λ plan. plan.steps.count ≤ max_steps) }
+    {
+        let steps = self.meant_steps()?;
+        let reached = run(&self.list, &steps)?;
+        Ok(Plan { steps, reached })
+    }
+
+    // The list alone.
     pub fn rewrite(&self) -> Result<ChannelList, Refusal>
         ensures { stepped_of self.now.list result ≡ Plans.rewritten self.now.version self.now.list self.now.steps }
     {
-        let steps = self.meant_steps()?;
-        run(&self.list, &steps)
+        let plan = self.plan()?;
+        Ok(plan.reached)
     }
 }
 

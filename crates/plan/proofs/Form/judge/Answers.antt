@@ -1,17 +1,10 @@
 -- `judge` meets its contract: each return has the answers to the questions before it. Assumes nothing.
-use borrow.Author.Tests.{leb-true}
-use mathlib.Core.Bool.{and-eq-true_iff}
-use lib.Dec.{leb}
-use Rattle.list.specs.Lists.{max_steps}
 use Rattle.plan.specs.Plans.{judge_form}
 use Rattle.plan.proofs.Form.judge.Goals as goal
 
 pub returns-then-not-count_allowed-self : goal.returns-then-not-count_allowed-self
 unfolding judge_form
 returns-then-not-count_allowed-self c = rw (← c.count_allowed.ensures, c.if-not-count_allowed-self.true)
-
-pub flags_allowed-requires : goal.flags_allowed-requires
-flags_allowed-requires c = leb-true _ max_steps ((and-eq-true_iff c.count_allowed.result (leb c.args.self.now.steps.count max_steps)).0 c.if-not-count_allowed-self.false).1
 
 pub returns-then-not-channels_allowed-flags_allowed : goal.returns-then-not-channels_allowed-flags_allowed
 unfolding judge_form

@@ -2,7 +2,7 @@
 use Rattle.std.proofs.Common.{rules, Err, ◌≡◌, ◌∙◌, sym, refl}
 use native.Mathlib.Omega.{arith}
 use Rattle.numbers.proofs.Refusals.{number_some}
-use Rattle.list.proofs.Acceptance.{count_inside, list_accepted, allowed_both}
+use Rattle.list.proofs.Acceptance.{list_accepted, allowed_both}
 use Rattle.plan.specs.Plans.{planned_of}
 use Rattle.plan.proofs.Turns.{stops}
 use Rattle.plan.proofs.Answers.{form_accepted, meant_refused, meant_given, meant_none, meant_default}
@@ -26,19 +26,19 @@ returns-then-self-ne0-clause-room c =
     let f = c.args.self.now in
     (form_accepted f.version f.list f.steps (sym c.in_ok-judge.ensures)).1
 
-pub returns-then-self-meta_count-clause-value : goal.returns-then-self-meta_count-clause-value
-returns-then-self-meta_count-clause-value c =
+pub returns-then-len-meta_count-clause-value : goal.returns-then-len-meta_count-clause-value
+returns-then-len-meta_count-clause-value c =
     let f = c.args.self.now in
-    meant_none f.version f.list f.steps _ c.in_ok-judge.ensures refl c.if-self-ne0.false _ _ c.meta_count.ensures c.if-self-meta_count.true refl
+    meant_none f.version f.list f.steps _ c.in_ok-judge.ensures refl c.if-self-ne0.false _ _ c.meta_count.ensures (rw c.len.ensures at c.if-len-meta_count.true) refl
 
 pub default_steps-requires : goal.default_steps-requires
 default_steps-requires c =
     let f = c.args.self.now in
     let ok = (form_accepted f.version f.list f.steps (sym c.in_ok-judge.ensures)).0 in
-    (rw c.of.ensures (stops f.version), (count_inside _ ok).1, omega (arith, c.meta_count.ensures, c.if-self-meta_count.false), (allowed_both _ (list_accepted _ ok).allowed).1)
+    (rw c.of.ensures (stops f.version), omega (arith, c.meta_count.ensures, c.len.ensures, c.if-len-meta_count.false), (allowed_both _ (list_accepted _ ok).allowed).1)
 
 pub returns-clause-value : goal.returns-clause-value
 returns-clause-value c =
     let f = c.args.self.now in
     let d = c.default_steps.ensures in
-    meant_default f.version f.list f.steps _ c.in_ok-judge.ensures refl c.if-self-ne0.false _ _ c.meta_count.ensures c.if-self-meta_count.false (rw c.of.ensures at d.value)
+    meant_default f.version f.list f.steps _ c.in_ok-judge.ensures refl c.if-self-ne0.false _ _ c.meta_count.ensures (rw c.len.ensures at c.if-len-meta_count.false) (rw c.of.ensures at d.value)

@@ -8,7 +8,8 @@ use Rattle.plan.proofs.Steps.flags_allowed.Goals as goal
 pub returns : goal.returns
 returns c =
     let s = c.args.self.now in
-    let n : s.count - 0 ≡ s.count = omega arith in
-    all_from_yields_List (λ k. leb (get_or s.flags k 0) 3) _ _ _ c.all.ensures.ran (YieldsList-from_range 0 s.count s.count refl n)
+    let m = c.len.result in
+    let n : m - 0 ≡ m = omega arith in
+    all_from_yields_List (λ k. leb (get_or s.flags k 0) 3) _ _ _ c.all.ensures.ran (YieldsList-from_range 0 m m refl n)
     (λ x b q k. search (rules, tests))
-    ∙ flags_ranged s c.requires
+    ∙ flags_ranged s m c.len.ensures
