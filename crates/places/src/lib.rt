@@ -4,7 +4,7 @@
 // moves no sample. Total: any count and any entry may come in.
 #![tactic(auto)]
 
-ghost use Rattle.std.specs.Prelude.{◌≡◌, [], ◌+◌, ◌*◌, ◌≤◌, length, drop};
+ghost use Rattle.std.specs.Prelude.{◌≡◌, [], ◌+◌, ◌*◌, ◌≤◌, length, min, drop};
 ghost use Rattle.list.specs.Tables.{padded};
 ghost use Rattle.list.specs.Lists.{max_channels, channels};
 ghost use Rattle.places.specs.Places as Spec;
@@ -63,7 +63,8 @@ impl Place {
         slot: Slot::Unmade,
     };
 
-    // The samples of its channel.
+    // The samples of its channel, as a length: not by `Channel::samples`, which counts
+    // what no slice may hold.
     pub fn area(self) -> usize
         ensures { result ≡ Spec.area self }
     {
@@ -161,7 +162,7 @@ impl Places {
     pub fn reset(&mut self, list: &ChannelList)
         ensures { Spec.places_in self.new ≡ Spec.places_from 0 (channels list.now) }
     {
-        let count = list.count.min(ChannelList::MAX_CHANNELS);
+        let count = list.len();
         let mut at = 0;
         for k in 0..count {
             let place = Place {
@@ -187,11 +188,18 @@ impl Places {
         }
     }
 
+    // How many places are meant.
+    pub fn len(&self) -> usize
+        ensures { result ≡ min self.now.count max_channels }
+    {
+        self.count.min(ChannelList::MAX_CHANNELS)
+    }
+
     // Where each channel would start if they lay one after the other.
     pub fn starts(&self) -> [usize; 256]
         ensures { result ≡ padded max_channels (Spec.starts_from 0 (Spec.areas_in self.now)) }
     {
-        let count = self.count.min(ChannelList::MAX_CHANNELS);
+        let count = self.len();
         let mut starts = [0; 256];
         let mut at = 0;
         for k in 0..count {
@@ -213,7 +221,7 @@ impl Places {
         ensures { result ≡ Spec.step_fits self.now.count step }
     {
         let number = step.number as usize;
-        let inside = step.begin as usize + number <= self.count;
+        let inside = step.end() <= self.count;
         inside & (self.count.saturating_add(number) <= ChannelList::MAX_CHANNELS)
     }
 

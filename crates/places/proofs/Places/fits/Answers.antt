@@ -25,4 +25,4 @@ returns c =
     let s = c.args.step in
     let n = c.args.self.now.count in
     let e = alike c.saturating_add.result (n + s.number) max_channels (λ h. omega arith) (λ h. omega arith) in
-    ap (λ (t : Bool). leb (s.begin + s.number) n && t) e
+    rw c.end.ensures (ap (λ (t : Bool). leb (s.begin + s.number) n && t) e)

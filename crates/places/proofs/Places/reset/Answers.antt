@@ -9,7 +9,7 @@ pub loop-k-preserved : goal.loop-k-preserved
 loop-k-preserved c =
     let w = c.loop-k in
     let l = c.args.list.now in
-    laying_more (new_place l) (new_area l) c.min-count.result _ w.self.places w.at w.k w.invariant _ c.behind-at.result (omega arith) (omega arith)
+    laying_more (new_place l) (new_area l) c.len-count.result _ w.self.places w.at w.k w.invariant _ c.behind-at.result (omega arith) (omega arith)
     refl (c.behind-at.ensures ∙ ap (Places.behind w.at) c.area.ensures)
 
 pub returns : goal.returns
@@ -17,5 +17,5 @@ unfolding Places.places_in
 returns c =
     let w = c.loop-k in
     let l = c.args.list.now in
-    places_laid l c.min-count.result _ w.self.places (omega arith) (omega arith)
-    (laying_all (new_place l) (new_area l) c.min-count.result _ w.self.places w.at w.k w.invariant (omega arith) (omega arith))
+    places_laid l c.len-count.result _ w.self.places (omega arith) (omega arith)
+    (laying_all (new_place l) (new_area l) c.len-count.result _ w.self.places w.at w.k w.invariant (omega arith) (omega arith))

@@ -12,7 +12,7 @@ pub loop-k-preserved : goal.loop-k-preserved
 loop-k-preserved c =
     let w = c.loop-k in
     let p = c.args.self.now in
-    laying_more start_at (λ (k : ℕ). area (place_at p k)) c.min-count.result _ w.starts w.at w.k w.invariant _ c.behind-at.result (omega arith) (omega arith)
+    laying_more start_at (λ (k : ℕ). area (place_at p k)) c.len-count.result _ w.starts w.at w.k w.invariant _ c.behind-at.result (omega arith) (omega arith)
     refl (c.behind-at.ensures ∙ ap (Places.behind w.at) c.area.ensures)
 
 pub returns : goal.returns
@@ -20,7 +20,7 @@ unfolding Places.areas_in
 returns c =
     let w = c.loop-k in
     let p = c.args.self.now in
-    let e : c.min-count.result ≡ min p.count max_channels = omega arith in
+    let e : c.len-count.result ≡ min p.count max_channels = c.len-count.ensures in
     rw (← e)
-    (laying_all start_at (λ (k : ℕ). area (place_at p k)) c.min-count.result _ w.starts w.at w.k w.invariant (omega arith) (omega arith)
-    ∙ starts_padded (λ (k : ℕ). area (place_at p k)) c.min-count.result (omega arith))
+    (laying_all start_at (λ (k : ℕ). area (place_at p k)) c.len-count.result _ w.starts w.at w.k w.invariant (omega arith) (omega arith)
+    ∙ starts_padded (λ (k : ℕ). area (place_at p k)) c.len-count.result (omega arith))
