@@ -69,6 +69,7 @@ fn with_side(c: Channel, horizontal: bool, side: u32) -> Channel
 }
 
 // Question 10, of one channel.
+#[tactic(auto, unfolding(crate::specs::Questions::has_sides))]
 fn has_sides(c: Channel) -> bool
     ensures { result ≡ Questions.has_sides c }
 {
@@ -84,6 +85,7 @@ fn shift(c: Channel, horizontal: bool) -> u8
 
 // The channel with its shift in the step's direction one more; a meta channel
 // stays.
+#[tactic(auto, using(crate::proofs::Shifts::raised_meta), unfolding(crate::specs::Lists::raised))]
 fn raised(c: Channel, horizontal: bool) -> Channel
     requires { is_meta c ≡ false → cond horizontal c.hshift c.vshift < meta_shift }
     ensures { result ≡ Lists.raised horizontal c }
@@ -102,6 +104,7 @@ fn raised(c: Channel, horizontal: bool) -> Channel
 
 // Question 11, of one channel's shifts: a channel that is not meta has room for
 // one more in the step's direction.
+#[tactic(auto, using(crate::proofs::Shifts::kept_found))]
 fn keeps_shifts(c: Channel, horizontal: bool) -> bool
     ensures { result ≡ Questions.shifts_kept horizontal c }
 {
@@ -134,6 +137,7 @@ fn residual(c: Channel, horizontal: bool) -> Channel
 }
 
 // Whether `k` is one of `number` indices from `start` on.
+#[tactic(auto, unfolding(crate::specs::Entries::is_inside))]
 fn is_inside(start: usize, number: usize, k: usize) -> bool
     ensures { result ≡ Entries.is_inside start number k }
 {
@@ -142,6 +146,7 @@ fn is_inside(start: usize, number: usize, k: usize) -> bool
 
 // The index of the channel that entry `k` of the list that a step leaves is made
 // of, where its residuals start at `residuals`.
+#[tactic(auto, unfolding(crate::specs::Entries::source))]
 fn source(step: Step, residuals: usize, k: usize) -> usize
     ensures { result ≡ Entries.source step residuals k }
 {
@@ -156,6 +161,7 @@ fn source(step: Step, residuals: usize, k: usize) -> usize
 }
 
 // Entry `k` of the list that a step leaves, made of the channel `c`.
+#[tactic(auto, unfolding(crate::specs::Entries::entry_allowed, crate::specs::Entries::entry))]
 fn entry(c: Channel, step: Step, residuals: usize, k: usize) -> Channel
     requires { Entries.entry_allowed step residuals k c ≡ true }
     ensures { result ≡ Entries.entry step residuals k c }
@@ -178,6 +184,7 @@ impl ChannelList {
     pub const MAX_SAMPLES: u64 = numbers::MAX_SAMPLES as u64;
 
     // The list without a channel.
+    #[tactic(auto, unfolding(crate::specs::Lists::holding))]
     pub fn empty() -> Self
         ensures { result ≡ Lists.packed [] }
     {
@@ -224,6 +231,7 @@ impl ChannelList {
     }
 
     // A channel and its origin after the last; where the list is full nothing changes.
+    #[tactic(auto, unfolding(crate::specs::Lists::pushed))]
     pub fn push(&mut self, c: Channel, origin: u8)
         ensures { self.new ≡ Lists.pushed self.old c origin }
     {
@@ -325,6 +333,7 @@ impl ChannelList {
     }
 
     // Question 3.
+    #[tactic(auto, unfolding(crate::specs::Questions::count_allowed))]
     pub fn count_allowed(&self) -> bool
         ensures { result ≡ Questions.count_allowed self.now.count }
     {
@@ -365,6 +374,7 @@ impl ChannelList {
     }
 
     // Question 5.
+    #[tactic(auto, using(crate::proofs::Totals::counted_leb))]
     pub fn total_allowed(&self) -> bool
         ensures { result ≡ Questions.total_allowed (Lists.channels self.now) }
     {
@@ -389,6 +399,7 @@ impl ChannelList {
     }
 
     // Questions 3 to 5 of the list, then 7 to 11 of the step on it.
+    #[tactic(auto, using(crate::proofs::Taken::list_answer_lem, crate::proofs::Taken::step_answer_lem, numbers::proofs::Refusals::number_some))]
     pub fn check_squeeze_params(&self, step: Step) -> Result<(), Refusal>
         ensures { answer_of result ≡ Questions.step_answer step self.now }
     {
