@@ -20,6 +20,7 @@ impl Channel {
 
     pub const MAX_SHIFT: u8 = 30;
 
+    #[tactic(auto, unfolding(crate::specs::Channel::is_meta))]
     pub fn is_meta(self) -> bool
         ensures { result ≡ Spec.is_meta self }
     {
@@ -27,6 +28,7 @@ impl Channel {
     }
 
     // Shifts of 0 to 30, or both 255.
+    #[tactic(auto, unfolding(crate::specs::Channel::shifts_allowed))]
     pub fn has_shifts_allowed(self) -> bool
         ensures { result ≡ Spec.shifts_allowed self }
     {
@@ -34,6 +36,7 @@ impl Channel {
     }
 
     // The sides, which may hold more than the limit.
+    #[tactic(auto, unfolding(crate::specs::Channel::sides_fit))]
     fn has_sides_allowed(self) -> bool
         ensures { result ≡ Spec.sides_fit self }
     {
@@ -41,6 +44,7 @@ impl Channel {
     }
 
     // Shifts and sides.
+    #[tactic(auto, unfolding(crate::specs::Channel::is_allowed))]
     pub fn is_allowed(self) -> bool
         ensures { result ≡ Spec.is_allowed self }
     {
@@ -54,6 +58,7 @@ impl Channel {
         if horizontal { self.width } else { self.height }
     }
 
+    #[tactic(auto, unfolding(crate::specs::Channel::samples))]
     pub fn samples(self) -> u64
         ensures { result ≡ Spec.samples self }
     {

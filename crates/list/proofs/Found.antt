@@ -55,3 +55,6 @@ module _ (s : Step) (l : ChannelList) where
       pub room_found : n + s.number ≤ max_channels → (r : Bool) → r ≡ all (shifts_kept s.horizontal) (range s (channels l)) → r ≡ room_left s (channels l)
       unfolding room_left
       room_found h r e = e ∙ sym (rw (le-leb (length (channels l) + s.number) max_channels (omega (arith, channels_length l))))
+
+-- what answers the questions of a step
+pub ruleset questions = (range_found, some, kinds_found, place_found, all_found, room_none, room_found)

@@ -288,7 +288,7 @@ impl ChannelList {
     }
 
     // Questions 7 to 11, of a step on the list.
-    #[tactic(auto, using(crate::proofs::Found::range_found, crate::proofs::Found::some, crate::proofs::Found::kinds_found, crate::proofs::Found::place_found, crate::proofs::Found::all_found, crate::proofs::Found::room_none, crate::proofs::Found::room_found), unfolding(crate::specs::Questions::judge_step))]
+    #[tactic(auto, using(crate::proofs::Found::questions), unfolding(crate::specs::Questions::judge_step))]
     fn judge_step(&self, step: Step) -> Result<(), Refusal>
         ensures { answer_of result ≡ Questions.judge_step step (Lists.channels self.now) }
     {

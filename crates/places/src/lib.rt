@@ -217,6 +217,7 @@ impl Places {
     }
 
     // Whether a step's range lies inside and there is room for its residuals.
+    #[tactic(auto, unfolding(crate::specs::Places::step_fits))]
     fn fits(&self, step: Step) -> bool
         ensures { result ≡ Spec.step_fits self.now.count step }
     {

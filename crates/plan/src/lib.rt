@@ -66,6 +66,7 @@ struct Others {
 }
 
 // "flags 1 (bit 0 horizontal, bit 1 in place)".
+#[tactic(auto, unfolding(crate::specs::Steps::flags_of))]
 pub fn flags_of(step: Step) -> u8
     ensures { result ≡ Spec.flags_of step }
 {
@@ -93,6 +94,7 @@ impl Steps {
     // The flags of a step that is horizontal and in place.
     pub const ALL_FLAGS: u8 = 3;
 
+    #[tactic(auto, unfolding(crate::specs::Steps::packed))]
     pub fn empty() -> Self
         ensures { result ≡ Spec.packed [] }
     {
@@ -122,6 +124,7 @@ impl Steps {
     }
 
     // `step` after the last one; where there is no room nothing changes.
+    #[tactic(auto, unfolding(crate::specs::Adding::pushed, crate::specs::Adding::added))]
     pub fn push(&mut self, step: Step)
         ensures { self.new ≡ added self.old step }
     {
@@ -136,6 +139,7 @@ impl Steps {
 
     // The step where the plan has it: a plan's rules are tests of sides, which this
     // takes from its callers.
+    #[tactic(auto, using(crate::proofs::Appended::added_room), unfolding(crate::specs::Adding::appended))]
     fn push_if(&mut self, test: bool, step: Step)
         requires { self.old.count + length (Default.when test step) ≤ max_steps }
         ensures { self.new ≡ appended self.old (Default.when test step) }
@@ -160,6 +164,7 @@ impl DefaultRule {
 
     const HOUSE_SIDE: u32 = 32;
 
+    #[tactic(auto, unfolding(crate::specs::Version::rule_of))]
     fn of(version: u32) -> Self
         ensures { result ≡ Version.rule_of version }
     {
@@ -192,6 +197,7 @@ impl Others {
 }
 
 // Question 4, of a plan version.
+#[tactic(auto, unfolding(crate::specs::Version::is_version))]
 pub fn is_version(version: u32) -> bool
     ensures { result ≡ Version.is_version version }
 {
@@ -262,6 +268,7 @@ fn chroma(steps: &mut Steps, wanted: bool, others: Others, second: Channel)
 
 // Whether a channel is meta or has no side above `stop` (the Rust's
 // `is_meta_or_small`).
+#[tactic(auto, unfolding(crate::specs::Coarse::is_coarse))]
 fn is_coarse(channel: Channel, stop: u32) -> bool
     ensures { result ≡ is_coarse stop channel }
 {
@@ -340,6 +347,7 @@ fn run(list: &ChannelList, steps: &Steps) -> Result<ChannelList, Refusal>
 impl Form {
     // Questions 3 to 5: each is put to the list and to the plan before the next, so that
     // the list is not judged first by itself.
+    #[tactic(auto, unfolding(crate::specs::Plans::judge_form))]
     fn judge(&self) -> Result<(), Refusal>
         ensures { answer_of result ≡ Plans.judge_form self.now.version self.now.list self.now.steps }
     {
