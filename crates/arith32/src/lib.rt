@@ -42,6 +42,7 @@ pub fn half(d: i32) -> i32
 
 // The upper 32 bits of the signed product by 55555556 hex: the whole third of
 // a sample that is not negative (`third_whole` in proofs/Thirds.antt).
+#[tactic(auto, using(crate::proofs::Thirds::product_fits, crate::proofs::Thirds::third_sample, crate::proofs::Whole::widened))]
 pub fn third(p: i32) -> i32
     ensures { result ≡ Arith.third p }
 {

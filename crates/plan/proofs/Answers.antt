@@ -173,3 +173,6 @@ rewritten_accepted version l s h =
     let ok = list_accepted l (form_accepted version l s p.0).0 in
     ap judge_list (outcome_list (judge_plan version l s) l _ none)
     ∙ held_accepted _ _ (plan_accepted (meant version (S.steps s) (channels l)) (channels l) ok m.1)
+
+-- the list that the steps that are meant leave, or the refusal
+pub ruleset meanings = (rewritten_refused, rewritten_run)

@@ -382,6 +382,7 @@ impl Form {
     }
 
     // The steps that are meant and the list that they leave, by questions 3 to 11.
+    #[tactic(auto, using(crate::proofs::Answers::meanings))]
     pub fn plan(&self) -> Result<Plan, Refusal>
         ensures reached { Plans.reached_of self.now.list result ≡ Plans.rewritten self.now.version self.now.list self.now.steps }
         ensures meant { IfOk result (λ plan. Plans.planned_of (Ok plan.steps) ≡ Plans.meant_steps self.now.version self.now.list self.now.steps) }
