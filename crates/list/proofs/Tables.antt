@@ -49,6 +49,11 @@ module _ {ℓ} {A : Type ℓ} (f : ℕ → A) where
   pub table_part : (k n b m : ℕ) → b + m ≤ n → take m (drop b (table f k n)) ≡ table f (k + b) m
   table_part k n b m h = let e : min m (n - b) ≡ m = omega arith in table_within k n b m ∙ ap (table f (k + b)) e
 
+-- what agrees in every entry
+pub table_same {ℓ} : {A : Type ℓ} (f g : ℕ → A) (k n : ℕ) → ((j : ℕ) → k ≤ j → j < k + n → f j ≡ g j) → table f k n ≡ table g k n
+table_same f g k zero h = refl
+table_same f g k (suc n) h = rw (h k (omega arith) (omega arith), table_same f g (suc k) n (λ j m l. h j (omega arith) (omega arith)))
+
 -- a test of every entry from k on, where v and the test's answer b were found at k
 module _ {ℓ} {A : Type ℓ} (f : ℕ → A) (p : A → Bool) (k n : ℕ) (v : A) (b : Bool) (h : k < n) (ev : v ≡ f k) (eb : b ≡ p v) where
   pub all_stop : b ≡ false → false ≡ all p (table f k (n - k))
