@@ -65,7 +65,8 @@ struct Others {
     height: u32,
 }
 
-// "flags 1 (bit 0 horizontal, bit 1 in place)".
+// "flags 1 (bit 0 horizontal, bit 1 in place)". Not by `From`: a step is more than its
+// flags.
 #[tactic(auto, unfolding(crate::specs::Steps::flags_of))]
 pub fn flags_of(step: Step) -> u8
     ensures { result ≡ Spec.flags_of step }

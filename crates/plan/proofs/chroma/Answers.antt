@@ -4,11 +4,6 @@ use Rattle.plan.proofs.Parts.{chroma_across, across_length, down_length, chroma_
 use Rattle.plan.proofs.Appended.{counted, appended_after}
 use Rattle.plan.proofs.chroma.Goals as goal
 
-pub push_if-requires : goal.push_if-requires
-push_if-requires c =
-    let q = c.args in
-    omega (arith, across_length q.wanted q.others.begin q.others.number q.others.width q.others.height q.second, c.requires)
-
 pub push_if-requires-2 : goal.push_if-requires-2
 push_if-requires-2 c =
     let q = c.args in

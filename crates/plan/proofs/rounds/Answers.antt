@@ -1,12 +1,7 @@
 -- `rounds` meets its contract: the turns that are left fit and give the whole plan (`Left` of proofs/Appended.antt). A turn lowers the sum of the
 -- sides. Assumes nothing.
-use mathlib.Core.Path.{refl}
-use Rattle.plan.proofs.Turns.{turn_lowers}
 use Rattle.plan.proofs.Appended.{left_across, left_down, left_more, left_none}
 use Rattle.plan.proofs.rounds.Goals as goal
-
-pub loop-width-init : goal.loop-width-init
-loop-width-init c = (c.requires.0, record { room = c.requires.1; so = refl })
 
 pub push_if-requires : goal.push_if-requires
 push_if-requires c =
@@ -17,12 +12,6 @@ pub push_if-requires-in-loop-width : goal.push_if-requires-in-loop-width
 push_if-requires-in-loop-width c =
     let i = c.loop-width.invariant in
     rw c.step-in-loop-width.ensures (left_down _ _ _ i.0 _ _ _ _ i.1 _ (rw c.step.ensures at c.push_if.ensures))
-
-pub loop-width-smaller : goal.loop-width-smaller
-loop-width-smaller c =
-    let w = c.lowered-width.ensures in
-    let h = c.lowered-height.ensures in
-    rw (w, h) (turn_lowers _ c.loop-width.width c.loop-width.height c.loop-width.invariant.0 c.loop-width-test.true)
 
 pub loop-width-preserved : goal.loop-width-preserved
 loop-width-preserved c =
