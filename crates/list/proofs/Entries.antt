@@ -39,13 +39,13 @@ abbrev pub residuals_at {ℓ} : {A : Type ℓ} → Step → List A → ℕ
 residuals_at s xs = cond s.inplace (s.begin + s.number) (length xs)
 
 module _ {ℓ} {A : Type ℓ} (s : Step) (xs : List A) (inside : s.begin + s.number ≤ length xs) where
-  length_before : length (before s xs) ≡ s.begin
+  pub length_before : length (before s xs) ≡ s.begin
   length_before = length-take-le s.begin xs (omega arith)
 
   pub length_range : length (range s xs) ≡ s.number
   length_range = simp (length-take, length-drop) (omega arith)
 
-  length_after_lem : length (after s xs) ≡ length xs - (s.begin + s.number)
+  pub length_after_lem : length (after s xs) ≡ length xs - (s.begin + s.number)
   length_after_lem = length-drop (s.begin + s.number) xs
 
   range_at : (i : ℕ) (d : A) → i < s.number → get_or (range s xs) i d ≡ get_or xs (i + s.begin) d

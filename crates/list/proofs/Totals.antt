@@ -43,7 +43,7 @@ module _ (cs : List Channel) where
 halves_whole : (side : ℕ) → halved side + Lists.rest side ≡ side
 halves_whole side = omega arith
 
-raised_samples : (h : Bool) (c : Channel) → samples (raised h c) ≡ samples c
+pub raised_samples : (h : Bool) (c : Channel) → samples (raised h c) ≡ samples c
 unfolding raised samples
 raised_samples h c = go (is_meta c)
   where
@@ -68,7 +68,7 @@ pub total_append : (cs ds : List Channel) → total (cs ++ ds) ≡ total cs + to
 total_append [] ds = omega arith
 total_append (c ∷ cs) ds = omega (arith, total_append cs ds)
 
-joined_total : (i : Bool) (cs ds : List Channel) → total (joined i cs ds) ≡ total cs + total ds
+pub joined_total : (i : Bool) (cs ds : List Channel) → total (joined i cs ds) ≡ total cs + total ds
 joined_total true cs ds = total_append cs ds
 joined_total false cs ds = omega (arith, total_append ds cs)
 

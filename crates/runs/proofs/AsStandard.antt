@@ -7,16 +7,13 @@ use mathlib.Core.List.{List, [], ◌∷◌}
 use mathlib.Core.Logic.{inl}
 use Prim.Native.Nat.{ℕ, ◌+◌, ◌*◌}
 use native.Mathlib.Omega.{arith}
-use borrow.Author.Tests.{eqb-true}
 use lib.IntN.{ℤ, pos}
 use lib.ListN.{length, get_or, take, drop}
 use Rattle.channel.specs.declared.Channel.{Channel}
 use Rattle.channel.specs.Channel.{samples}
 use Rattle.list.specs.declared.Step.{Step}
 use Rattle.list.specs.Lists.{average, residual, range, stepped}
-use Rattle.list.specs.Questions.{judge_step}
 use Rattle.list.specs.Tables.{map}
-use Rattle.list.proofs.Acceptance.{step_accepted}
 use Rattle.line.specs.Uncut.{squeeze, Fitting, line_at, position_at, uncut}
 use Rattle.line.specs.Forward.{average_count, residual_count}
 use Rattle.line.specs.Plain.{AllInDomain}
@@ -28,8 +25,8 @@ use Rattle.runs.specs.Parts.{parts}
 use Rattle.runs.specs.Runs.{lines_of, size_of, channel_back, all_back_by, residual_parts, back_parts, step_back, is_taken, layout, rebuilt}
 use Rattle.runs.specs.Claim.{Fills}
 use Rattle.runs.specs.Unbounded.{standard_back, standard_step, standard_run, RangeInDomain, StepInDomain, RunInDomain}
-use Rattle.runs.proofs.Shapes.{Shaped, parts_shaped, parts_samples}
-use Rattle.runs.proofs.OneChannel.{average_samples, residual_samples}
+use Rattle.runs.proofs.Shapes.{Shaped, taken_inside, parts_shaped, parts_samples}
+use Rattle.runs.proofs.OneChannel.{all_along, average_samples, residual_samples}
 use Rattle.runs.proofs.OneStep.{step_shapes}
 use Rattle.runs.proofs.Whole.{rebuilt_fills}
 
@@ -47,23 +44,20 @@ module _ (h : Bool) (c : Channel) (avg res : List ℤ) (la : length avg ≡ samp
         prev_length = inl refl;
       }
 
-  all_along : average_count (size_of h c) + residual_count (size_of h c) ≡ size_of h c
-  all_along = omega arith
-
   channel_standard : channel_back h c avg res ≡ standard_back h c avg res
   unfolding channel_back standard_back
   channel_standard =
       let q = squeeze h (lines_of h c) (average_count (size_of h c)) (residual_count (size_of h c)) avg res [] [] in
-      is_table _ 0 (lines_of h c * size_of h c) (uncut q) (uncut_length q ∙ rw all_along)
+      is_table _ 0 (lines_of h c * size_of h c) (uncut q) (uncut_length q ∙ rw (all_along (size_of h c)))
       (λ j l.
       let z : 0 + j ≡ j = omega arith in
       let k = line_at h (lines_of h c) (size_of h c) j in
       let i = position_at h (lines_of h c) (size_of h c) j in
       let hk = line_room h (lines_of h c) (size_of h c) j l in
       let hi = position_room h (lines_of h c) (size_of h c) j l in
-      let e = uncut_standard q fitting refl refl (record { avg = da; res = dr; out = dm }) k i hk (rw all_along hi) in
+      let e = uncut_standard q fitting refl refl (record { avg = da; res = dr; out = dm }) k i hk (rw (all_along (size_of h c)) hi) in
       rw z
-      (sym (ap (λ (p : ℕ). get_or (uncut q) p (pos 0)) (place_back h (lines_of h c) (size_of h c) j)) ∙ rw all_along at e))
+      (sym (ap (λ (p : ℕ). get_or (uncut q) p (pos 0)) (place_back h (lines_of h c) (size_of h c) j)) ∙ rw (all_along (size_of h c)) at e))
 
 -- ---- the channels of a range
 range_standard : (h : Bool) (cs : List Channel) (avgs ress : List (List ℤ)) → Shaped (map (average h) cs) avgs → Shaped (map (residual h) cs) ress
@@ -80,8 +74,7 @@ step_standard : (s : Step) (cs : List Channel) (xs : List ℤ) → is_taken s cs
 unfolding step_back standard_step back_parts
 step_standard s cs xs e f d =
     let ps = parts (stepped s cs) xs in
-    let i = (step_accepted s cs (eqb-true (judge_step s cs) 0 e)).inside in
-    let sh = step_shapes s cs i ps (parts_shaped (stepped s cs) xs f.long) (parts_samples (stepped s cs) xs f.samples) in
+    let sh = step_shapes s cs (taken_inside s cs e) ps (parts_shaped (stepped s cs) xs f.long) (parts_samples (stepped s cs) xs f.samples) in
     rw (range_standard s.horizontal (range s cs) (take s.number (drop s.begin ps)) (residual_parts s cs (drop (s.begin + s.number) ps)) sh.0 sh.1 d)
 
 -- Demand 2, over a whole list of steps

@@ -1,19 +1,21 @@
 -- One channel there and back (specs/Runs.antt), and the channels of a range: the laws of lines (crate line) at a channel's sizes, which are those
 -- that a step gives its average and its residual. Assumes nothing.
 use mathlib.Core.Path.{◌≡◌, refl, sym, ◌∙◌}
-use mathlib.Core.Bool.{Bool, true, false, cond}
+use mathlib.Core.Bool.{Bool, true, false}
 use mathlib.Core.List.{List, [], ◌∷◌}
 use Prim.Native.Nat.{ℕ, ◌+◌, ◌*◌}
 use native.Mathlib.Omega.{arith}
 use native.Mathlib.Nat.{mul_comm}
 use lib.IntN.{ℤ}
 use lib.ListN.{length}
+use Rattle.std.proofs.lemmas.List.Elements.{All-nil, All-cons, All-head, All-tail}
 use Rattle.channel.specs.declared.Channel.{Channel}
 use Rattle.channel.specs.Channel as Channel
-use Rattle.channel.specs.Channel.{is_meta, samples}
+use Rattle.channel.specs.Channel.{samples}
 use Rattle.list.specs.Lists as Lists
-use Rattle.list.specs.Lists.{halved, rest, raised, sided, average, residual}
+use Rattle.list.specs.Lists.{halved, rest, sided, average, residual}
 use Rattle.list.specs.Tables.{map}
+use Rattle.list.proofs.Totals.{raised_samples}
 use Rattle.line.specs.Uncut.{squeeze}
 use Rattle.line.specs.Forward.{average_count, residual_count}
 use Rattle.line.proofs.Outputs.{uncut_length}
@@ -29,14 +31,6 @@ pub samples_by : (h : Bool) (c : Channel) → samples c ≡ lines_of h c * size_
 unfolding Channel.samples
 samples_by true c = mul_comm c.width c.height
 samples_by false c = refl
-
-raised_samples : (h : Bool) (c : Channel) → samples (raised h c) ≡ samples c
-unfolding Lists.raised Channel.samples
-raised_samples h c = by (is_meta c)
-  where
-    by : (b : Bool) → samples (cond b c (record { width = c.width; height = c.height; hshift = cond h (c.hshift + 1) c.hshift; vshift = cond h c.vshift (c.vshift + 1) })) ≡ samples c
-    by true = refl
-    by false = refl
 
 sided_samples : (f : ℕ → ℕ) (h : Bool) (c : Channel) → samples (sided f h c) ≡ lines_of h c * f (size_of h c)
 unfolding Channel.samples
@@ -100,19 +94,27 @@ unfolding channel_residuals
 residuals_samples h c xs = Sampled.residuals_samples h (lines_of h c) (size_of h c) xs
 
 -- ---- the channels of a range
+each_shaped : (g : Channel → Channel) (f : Channel → List ℤ → List ℤ) → ((c : Channel) (p : List ℤ) → length (f c p) ≡ samples (g c))
+    → (cs : List Channel) (ps : List (List ℤ)) → Shaped cs ps → Shaped (map g cs) (each f cs ps)
+each_shaped g f e [] [] s = tt
+each_shaped g f e [] (p ∷ ps) s = absurd s
+each_shaped g f e (c ∷ cs) [] s = absurd s
+each_shaped g f e (c ∷ cs) (p ∷ ps) s = (e c p, each_shaped g f e cs ps s.1)
+
+each_samples : (f : Channel → List ℤ → List ℤ) → ((c : Channel) (p : List ℤ) → Samples p → Samples (f c p))
+    → (cs : List Channel) (ps : List (List ℤ)) → AllSamples ps → AllSamples (each f cs ps)
+each_samples f e [] ps a = All-nil Samples
+each_samples f e (c ∷ cs) [] a = All-nil Samples
+each_samples f e (c ∷ cs) (p ∷ ps) a =
+    All-cons Samples (f c p) (each f cs ps) (e c p (All-head Samples p ps a)) (each_samples f e cs ps (All-tail Samples p ps a))
+
 module _ (h : Bool) where
   -- lengths and samples
   pub averages_shaped : (cs : List Channel) (ps : List (List ℤ)) → Shaped cs ps → Shaped (map (average h) cs) (each (channel_averages h) cs ps)
-  averages_shaped [] [] s = tt
-  averages_shaped [] (p ∷ ps) s = absurd s
-  averages_shaped (c ∷ cs) [] s = absurd s
-  averages_shaped (c ∷ cs) (p ∷ ps) s = (averages_length h c p, averages_shaped cs ps s.1)
+  averages_shaped = each_shaped (average h) (channel_averages h) (averages_length h)
 
   pub residuals_shaped : (cs : List Channel) (ps : List (List ℤ)) → Shaped cs ps → Shaped (map (residual h) cs) (each (channel_residuals h) cs ps)
-  residuals_shaped [] [] s = tt
-  residuals_shaped [] (p ∷ ps) s = absurd s
-  residuals_shaped (c ∷ cs) [] s = absurd s
-  residuals_shaped (c ∷ cs) (p ∷ ps) s = (residuals_length h c p, residuals_shaped cs ps s.1)
+  residuals_shaped = each_shaped (residual h) (channel_residuals h) (residuals_length h)
 
   pub back_shaped : (cs : List Channel) (avgs ress : List (List ℤ)) → Shaped (map (average h) cs) avgs → Shaped (map (residual h) cs) ress
       → Shaped cs (all_back h cs avgs ress)
@@ -122,20 +124,18 @@ module _ (h : Bool) where
   back_shaped (c ∷ cs) (a ∷ avgs) (r ∷ ress) s t = (back_length h c a r, back_shaped cs avgs ress s.1 t.1)
 
   pub all_averages : (cs : List Channel) (ps : List (List ℤ)) → AllSamples ps → AllSamples (each (channel_averages h) cs ps)
-  all_averages [] ps f = tt
-  all_averages (c ∷ cs) [] f = tt
-  all_averages (c ∷ cs) (p ∷ ps) f = (averages_samples h c p f.0, all_averages cs ps f.1)
+  all_averages = each_samples (channel_averages h) (averages_samples h)
 
-  pub all_residuals : (cs : List Channel) (ps : List (List ℤ)) → AllSamples (each (channel_residuals h) cs ps)
-  all_residuals [] ps = tt
-  all_residuals (c ∷ cs) [] = tt
-  all_residuals (c ∷ cs) (p ∷ ps) = (residuals_samples h c p, all_residuals cs ps)
+  pub all_residuals : (cs : List Channel) (ps : List (List ℤ)) → AllSamples ps → AllSamples (each (channel_residuals h) cs ps)
+  all_residuals = each_samples (channel_residuals h) (λ c p f. residuals_samples h c p)
 
   pub all_back_lem : (cs : List Channel) (avgs ress : List (List ℤ)) → AllSamples avgs → AllSamples (all_back h cs avgs ress)
-  all_back_lem [] avgs ress f = tt
-  all_back_lem (c ∷ cs) [] ress f = tt
-  all_back_lem (c ∷ cs) (a ∷ avgs) [] f = tt
-  all_back_lem (c ∷ cs) (a ∷ avgs) (r ∷ ress) f = (back_samples h c a r f.0, all_back_lem cs avgs ress f.1)
+  all_back_lem [] avgs ress f = All-nil Samples
+  all_back_lem (c ∷ cs) [] ress f = All-nil Samples
+  all_back_lem (c ∷ cs) (a ∷ avgs) [] f = All-nil Samples
+  all_back_lem (c ∷ cs) (a ∷ avgs) (r ∷ ress) f =
+      All-cons Samples (channel_back h c a r) (all_back h cs avgs ress)
+      (back_samples h c a r (All-head Samples a avgs f)) (all_back_lem cs avgs ress (All-tail Samples a avgs f))
 
   -- there and back, back and there
   pub range_again : (cs : List Channel) (ps : List (List ℤ)) → Shaped cs ps → AllSamples ps
@@ -143,22 +143,19 @@ module _ (h : Bool) where
   range_again [] [] s f = refl
   range_again [] (p ∷ ps) s f = absurd s
   range_again (c ∷ cs) [] s f = absurd s
-  range_again (c ∷ cs) (p ∷ ps) s f = rw (channel_again h c p s.0 f.0, range_again cs ps s.1 f.1)
+  range_again (c ∷ cs) (p ∷ ps) s f =
+      rw (channel_again h c p s.0 (All-head Samples p ps f), range_again cs ps s.1 (All-tail Samples p ps f))
 
-  pub range_averages : (cs : List Channel) (avgs ress : List (List ℤ)) → Shaped (map (average h) cs) avgs → Shaped (map (residual h) cs) ress
-      → AllSamples avgs → AllSamples ress → each (channel_averages h) cs (all_back h cs avgs ress) ≡ avgs
-  range_averages [] [] ress s t f g = refl
-  range_averages [] (a ∷ avgs) ress s t f g = absurd s
-  range_averages (c ∷ cs) [] ress s t f g = absurd s
-  range_averages (c ∷ cs) (a ∷ avgs) [] s t f g = absurd t
-  range_averages (c ∷ cs) (a ∷ avgs) (r ∷ ress) s t f g =
-      rw (averages_again h c a r s.0 t.0 f.0 g.0, range_averages cs avgs ress s.1 t.1 f.1 g.1)
-
-  pub range_residuals : (cs : List Channel) (avgs ress : List (List ℤ)) → Shaped (map (average h) cs) avgs → Shaped (map (residual h) cs) ress
-      → AllSamples avgs → AllSamples ress → each (channel_residuals h) cs (all_back h cs avgs ress) ≡ ress
-  range_residuals [] avgs [] s t f g = refl
-  range_residuals [] avgs (r ∷ ress) s t f g = absurd t
-  range_residuals (c ∷ cs) [] ress s t f g = absurd s
-  range_residuals (c ∷ cs) (a ∷ avgs) [] s t f g = absurd t
-  range_residuals (c ∷ cs) (a ∷ avgs) (r ∷ ress) s t f g =
-      rw (residuals_again h c a r s.0 t.0 f.0 g.0, range_residuals cs avgs ress s.1 t.1 f.1 g.1)
+  pub range_back : (cs : List Channel) (avgs ress : List (List ℤ)) → Shaped (map (average h) cs) avgs → Shaped (map (residual h) cs) ress
+      → AllSamples avgs → AllSamples ress
+      → (each (channel_averages h) cs (all_back h cs avgs ress) ≡ avgs) × (each (channel_residuals h) cs (all_back h cs avgs ress) ≡ ress)
+  range_back [] [] [] s t f g = (refl, refl)
+  range_back [] (a ∷ avgs) ress s t f g = absurd s
+  range_back [] [] (r ∷ ress) s t f g = absurd t
+  range_back (c ∷ cs) [] ress s t f g = absurd s
+  range_back (c ∷ cs) (a ∷ avgs) [] s t f g = absurd t
+  range_back (c ∷ cs) (a ∷ avgs) (r ∷ ress) s t f g =
+      let rest = range_back cs avgs ress s.1 t.1 (All-tail Samples a avgs f) (All-tail Samples r ress g) in
+      let fa = All-head Samples a avgs f in
+      let fr = All-head Samples r ress g in
+      (rw (averages_again h c a r s.0 t.0 fa fr, rest.0), rw (residuals_again h c a r s.0 t.0 fa fr, rest.1))

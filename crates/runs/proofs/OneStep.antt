@@ -1,42 +1,70 @@
 -- One step there and back on slices (specs/Runs.antt). The samples of a list lie as those before a step's range, in it and behind it; the samples of
--- the list after the step as those before, the averages, and residuals and those behind in the order that the step asks (`arranged`). On slices
--- so put together both ways compute, and the range's laws (OneChannel.antt) do the rest. Assumes nothing.
-use mathlib.Core.Path.{◌≡◌, refl, sym, ap, ◌∙◌}
+-- the list after the step as those before, the averages, and residuals and those behind in the order that the step asks (`joined` of list). On
+-- slices so put together both ways compute, and the range's laws (OneChannel.antt) do the rest. Assumes nothing.
+use mathlib.Core.Path.{◌≡◌, sym, ap, ◌∙◌}
 use mathlib.Core.Bool.{Bool, true, false, cond}
-use mathlib.Core.List.{List, [], ◌∷◌, ◌++◌, append_assoc}
-use Prim.Native.Nat.{suc, ◌+◌, ◌≤◌}
+use mathlib.Core.List.{List, ◌++◌, append_assoc}
+use Prim.Native.Nat.{◌+◌, ◌≤◌}
 use native.Mathlib.Omega.{arith}
 use lib.IntN.{ℤ}
-use lib.ListN.{length, take, drop, length-append, length-drop, take-append-drop}
-use lib.Seq.{take_at, drop_at, length-take-le}
+use lib.ListN.{length, take, drop, length-append, take-append-drop}
+use lib.Seq.{take_at, drop_at}
+use Rattle.std.proofs.lemmas.List.Elements.{All-append, All-take, All-drop}
 use Rattle.channel.specs.declared.Channel.{Channel}
 use Rattle.list.specs.declared.Step.{Step}
 use Rattle.list.specs.Lists as Lists
 use Rattle.list.specs.Lists.{average, residual, before, range, after, stepped, total}
 use Rattle.list.specs.Tables.{map}
-use Rattle.list.proofs.Parts.{parts_whole}
+use Rattle.list.proofs.Maps.{map_length}
+use Rattle.list.proofs.Parts.{averages, residuals, joined, following, parts_whole}
+use Rattle.list.proofs.Entries.{length_before, length_range, length_after_lem}
 use Rattle.line.specs.Forward.{Samples}
 use Rattle.runs.specs.Parts.{parts}
 use Rattle.runs.specs.Runs.{channel_averages, channel_residuals, all_back, each, behind, residual_parts, other_parts, back_parts, forward_parts, step_back, step_forward}
-use Rattle.runs.proofs.Shapes.{Shaped, AllSamples, shaped_length, joined_length, parts_shaped, joined_parts, parts_joined, shaped_append, shaped_front, shaped_back, parts_samples, joined_samples, all_append, all_take, all_drop}
-use Rattle.runs.proofs.OneChannel.{averages_shaped, residuals_shaped, back_shaped, all_averages, all_residuals, all_back_lem, range_again, range_averages, range_residuals}
+use Rattle.runs.proofs.Shapes.{Shaped, AllSamples, shaped_length, joined_length, parts_shaped, joined_parts, parts_joined, shaped_append, shaped_front, shaped_back, parts_samples, joined_samples}
+use Rattle.runs.proofs.OneChannel.{averages_shaped, residuals_shaped, back_shaped, all_averages, all_residuals, all_back_lem, range_again, range_back}
 
--- residuals and the parts behind the range, in the order that a step asks
-abbrev pub arranged {ℓ} : {A : Type ℓ} → Bool → List A → List A → List A
-arranged inplace rs zs = cond inplace (rs ++ zs) (zs ++ rs)
+-- parts put together of residuals and others, in the order that a step asks
+pub record Both (inplace : Bool) (rs zs : List Channel) (ps : List (List ℤ)) : Type 0 where
+  pub pr : List (List ℤ)
+  pub pz : List (List ℤ)
+  pub whole : ps ≡ joined inplace pr pz
+  pub shape_r : Shaped rs pr
+  pub shape_z : Shaped zs pz
+  pub all_r : AllSamples pr
+  pub all_z : AllSamples pz
+
+cut : (rs zs : List Channel) (ps : List (List ℤ)) → Shaped (rs ++ zs) ps → AllSamples ps → Both true rs zs ps
+cut rs zs ps h f =
+    record {
+      pr = take (length rs) ps;
+      pz = drop (length rs) ps;
+      whole = sym (take-append-drop (length rs) ps);
+      shape_r = shaped_front rs zs ps h;
+      shape_z = shaped_back rs zs ps h;
+      all_r = All-take Samples (length rs) ps f;
+      all_z = All-drop Samples (length rs) ps f;
+    }
+
+both : (inplace : Bool) (rs zs : List Channel) (ps : List (List ℤ)) → Shaped (joined inplace rs zs) ps → AllSamples ps → Both inplace rs zs ps
+both true rs zs ps h f = cut rs zs ps h f
+both false rs zs ps h f =
+    let b = cut zs rs ps h f in
+    record { pr = b.pz; pz = b.pr; whole = b.whole; shape_r = b.shape_z; shape_z = b.shape_r; all_r = b.all_z; all_z = b.all_r }
+
+-- residuals and others keep shape and samples in either order
+joined_shaped : (inplace : Bool) (rs zs : List Channel) (pr pz : List (List ℤ)) → Shaped rs pr → Shaped zs pz
+    → Shaped (joined inplace rs zs) (joined inplace pr pz)
+joined_shaped true rs zs pr pz h k = shaped_append rs zs pr pz h k
+joined_shaped false rs zs pr pz h k = shaped_append zs rs pz pr k h
+
+joined_all : (inplace : Bool) (pr pz : List (List ℤ)) → AllSamples pr → AllSamples pz → AllSamples (joined inplace pr pz)
+joined_all true pr pz f g = All-append Samples pr pz f g
+joined_all false pr pz f g = All-append Samples pz pr g f
 
 module _ (s : Step) (cs : List Channel) (inside : s.begin + s.number ≤ length cs) where
-  length_before : length (before s cs) ≡ s.begin
-  length_before = length-take-le s.begin cs (omega arith)
-
-  length_range : length (range s cs) ≡ s.number
-  length_range = length-take-le s.number (drop s.begin cs) (let d = length-drop s.begin cs in omega arith)
-
-  length_after_lem : length (after s cs) ≡ behind s cs
-  length_after_lem = length-drop (s.begin + s.number) cs
-
   -- ---- both ways on parts put together
-  module _ (pb pa pr pz : List (List ℤ)) (lb : length pb ≡ s.begin) (la : length pa ≡ s.number) where
+  module _ (pb pa : List (List ℤ)) (lb : length pb ≡ s.begin) (la : length pa ≡ s.number) where
     skip : (v : List (List ℤ)) → drop (s.begin + s.number) (pb ++ (pa ++ v)) ≡ v
     skip v =
         let n = length-append pb pa in
@@ -48,32 +76,31 @@ module _ (s : Step) (cs : List Channel) (inside : s.begin + s.number ≤ length 
     middle : (v : List (List ℤ)) → take s.number (drop s.begin (pb ++ (pa ++ v))) ≡ pa
     middle v = rw (drop_at pb (pa ++ v) s.begin lb) (take_at pa v s.number la)
 
-    residuals_in : length pr ≡ s.number → length pz ≡ behind s cs → residual_parts s cs (arranged s.inplace pr pz) ≡ pr
-    residuals_in lr lz = by s.inplace
-      where
-        by : (b : Bool) → cond b (take s.number (cond b (pr ++ pz) (pz ++ pr))) (drop (behind s cs) (cond b (pr ++ pz) (pz ++ pr))) ≡ pr
-        by true = take_at pr pz s.number lr
-        by false = drop_at pz pr (behind s cs) lz
+    module _ (pr pz : List (List ℤ)) (lr : length pr ≡ s.number) (lz : length pz ≡ behind s cs) where
+      residuals_in : residual_parts s cs (joined s.inplace pr pz) ≡ pr
+      residuals_in = by s.inplace
+        where
+          by : (b : Bool) → cond b (take s.number (joined b pr pz)) (drop (behind s cs) (joined b pr pz)) ≡ pr
+          by true = take_at pr pz s.number lr
+          by false = drop_at pz pr (behind s cs) lz
 
-    others_in : length pr ≡ s.number → length pz ≡ behind s cs → other_parts s cs (arranged s.inplace pr pz) ≡ pz
-    others_in lr lz = by s.inplace
-      where
-        by : (b : Bool) → cond b (drop s.number (cond b (pr ++ pz) (pz ++ pr))) (take (behind s cs) (cond b (pr ++ pz) (pz ++ pr))) ≡ pz
-        by true = drop_at pr pz s.number lr
-        by false = take_at pz pr (behind s cs) lz
+      others_in : other_parts s cs (joined s.inplace pr pz) ≡ pz
+      others_in = by s.inplace
+        where
+          by : (b : Bool) → cond b (drop s.number (joined b pr pz)) (take (behind s cs) (joined b pr pz)) ≡ pz
+          by true = drop_at pr pz s.number lr
+          by false = take_at pz pr (behind s cs) lz
 
-    pub back_of : length pr ≡ s.number → length pz ≡ behind s cs
-        → back_parts s cs (pb ++ (pa ++ arranged s.inplace pr pz)) ≡ pb ++ (all_back s.horizontal (range s cs) pa pr ++ pz)
-    unfolding back_parts
-    back_of lr lz =
-        let v = arranged s.inplace pr pz in
-        rw (front v, middle v, skip v, residuals_in lr lz, others_in lr lz)
+      back_of : back_parts s cs (pb ++ (pa ++ joined s.inplace pr pz)) ≡ pb ++ (all_back s.horizontal (range s cs) pa pr ++ pz)
+      unfolding back_parts
+      back_of =
+          let v = joined s.inplace pr pz in
+          rw (front v, middle v, skip v, residuals_in, others_in)
 
-  forward_of : (qb qr qz : List (List ℤ)) → length qb ≡ s.begin → length qr ≡ s.number
-      → forward_parts s cs (qb ++ (qr ++ qz))
-      ≡ qb ++ (each (channel_averages s.horizontal) (range s cs) qr ++ arranged s.inplace (each (channel_residuals s.horizontal) (range s cs) qr) qz)
-  unfolding forward_parts
-  forward_of qb qr qz lb lr = rw (front qb qr [] [] lb lr qz, middle qb qr [] [] lb lr qz, skip qb qr [] [] lb lr qz)
+    forward_of : (qz : List (List ℤ)) → forward_parts s cs (pb ++ (pa ++ qz))
+        ≡ pb ++ (each (channel_averages s.horizontal) (range s cs) pa ++ joined s.inplace (each (channel_residuals s.horizontal) (range s cs) pa) qz)
+    unfolding forward_parts
+    forward_of qz = rw (front qz, middle qz, skip qz)
 
   -- ---- the samples of the list, and of the list after the step, so put together
   pub record Pieces (ps : List (List ℤ)) : Type 0 where
@@ -90,23 +117,19 @@ module _ (s : Step) (cs : List Channel) (inside : s.begin + s.number ≤ length 
 
   pieces : (ps : List (List ℤ)) → Shaped cs ps → AllSamples ps → Pieces ps
   pieces ps h f =
-      let b = before s cs in
-      let r = range s cs in
-      let z = after s cs in
-      let h' : Shaped (b ++ (r ++ z)) ps = rw (parts_whole s cs) h in
-      let rest = drop (length b) ps in
-      let hr = shaped_back b (r ++ z) ps h' in
+      let u = cut (before s cs) (range s cs ++ after s cs) ps (rw (parts_whole s cs) h) f in
+      let v = cut (range s cs) (after s cs) u.pz u.shape_z u.all_z in
       record {
-        qb = take (length b) ps;
-        qr = take (length r) rest;
-        qz = drop (length r) rest;
-        whole = sym (rw (take-append-drop (length r) rest) (take-append-drop (length b) ps));
-        shape_b = shaped_front b (r ++ z) ps h';
-        shape_r = shaped_front r z rest hr;
-        shape_z = shaped_back r z rest hr;
-        all_b = all_take (length b) ps f;
-        all_r = all_take (length r) rest (all_drop (length b) ps f);
-        all_z = all_drop (length r) rest (all_drop (length b) ps f);
+        qb = u.pr;
+        qr = v.pr;
+        qz = v.pz;
+        whole = u.whole ∙ ap (λ (l : List (List ℤ)). u.pr ++ l) v.whole;
+        shape_b = u.shape_r;
+        shape_r = v.shape_r;
+        shape_z = v.shape_z;
+        all_b = u.all_r;
+        all_r = v.all_r;
+        all_z = v.all_z;
       }
 
   pub record Steps (ps : List (List ℤ)) : Type 0 where
@@ -114,189 +137,147 @@ module _ (s : Step) (cs : List Channel) (inside : s.begin + s.number ≤ length 
     pub pa : List (List ℤ)
     pub pr : List (List ℤ)
     pub pz : List (List ℤ)
-    pub whole : ps ≡ pb ++ (pa ++ arranged s.inplace pr pz)
+    pub whole : ps ≡ pb ++ (pa ++ joined s.inplace pr pz)
     pub shape_b : Shaped (before s cs) pb
-    pub shape_a : Shaped (map (average s.horizontal) (range s cs)) pa
-    pub shape_r : Shaped (map (residual s.horizontal) (range s cs)) pr
+    pub shape_a : Shaped (averages s cs) pa
+    pub shape_r : Shaped (residuals s cs) pr
     pub shape_z : Shaped (after s cs) pz
     pub all_b : AllSamples pb
     pub all_a : AllSamples pa
     pub all_r : AllSamples pr
     pub all_z : AllSamples pz
 
-  steps_by : (ps : List (List ℤ)) (inplace : Bool)
-      → Shaped (before s cs ++ (map (average s.horizontal) (range s cs)
-      ++ cond inplace (map (residual s.horizontal) (range s cs) ++ after s cs) (after s cs ++ map (residual s.horizontal) (range s cs)))) ps
-      → AllSamples ps → s.inplace ≡ inplace → Steps ps
-  steps_by ps true h f e =
-      let b = before s cs in
-      let a = map (average s.horizontal) (range s cs) in
-      let r = map (residual s.horizontal) (range s cs) in
-      let z = after s cs in
-      let v = drop (length b) ps in
-      let w = drop (length a) v in
-      let hv = shaped_back b (a ++ (r ++ z)) ps h in
-      let hw = shaped_back a (r ++ z) v hv in
-      let fv = all_drop (length b) ps f in
-      let fw = all_drop (length a) v fv in
+  steps_by : (ps : List (List ℤ)) (u : Both true (before s cs) (averages s cs ++ following s cs) ps) (v : Both true (averages s cs) (following s cs) u.pz)
+      → Both s.inplace (residuals s cs) (after s cs) v.pz → Steps ps
+  steps_by ps u v w =
       record {
-        pb = take (length b) ps;
-        pa = take (length a) v;
-        pr = take (length r) w;
-        pz = drop (length r) w;
-        whole = sym (rw (e, take-append-drop (length r) w, take-append-drop (length a) v) (take-append-drop (length b) ps));
-        shape_b = shaped_front b (a ++ (r ++ z)) ps h;
-        shape_a = shaped_front a (r ++ z) v hv;
-        shape_r = shaped_front r z w hw;
-        shape_z = shaped_back r z w hw;
-        all_b = all_take (length b) ps f;
-        all_a = all_take (length a) v fv;
-        all_r = all_take (length r) w fw;
-        all_z = all_drop (length r) w fw;
-      }
-  steps_by ps false h f e =
-      let b = before s cs in
-      let a = map (average s.horizontal) (range s cs) in
-      let r = map (residual s.horizontal) (range s cs) in
-      let z = after s cs in
-      let v = drop (length b) ps in
-      let w = drop (length a) v in
-      let hv = shaped_back b (a ++ (z ++ r)) ps h in
-      let hw = shaped_back a (z ++ r) v hv in
-      let fv = all_drop (length b) ps f in
-      let fw = all_drop (length a) v fv in
-      record {
-        pb = take (length b) ps;
-        pa = take (length a) v;
-        pr = drop (length z) w;
-        pz = take (length z) w;
-        whole = sym (rw (e, take-append-drop (length z) w, take-append-drop (length a) v) (take-append-drop (length b) ps));
-        shape_b = shaped_front b (a ++ (z ++ r)) ps h;
-        shape_a = shaped_front a (z ++ r) v hv;
-        shape_r = shaped_back z r w hw;
-        shape_z = shaped_front z r w hw;
-        all_b = all_take (length b) ps f;
-        all_a = all_take (length a) v fv;
-        all_r = all_drop (length z) w fw;
-        all_z = all_take (length z) w fw;
+        pb = u.pr;
+        pa = v.pr;
+        pr = w.pr;
+        pz = w.pz;
+        whole = u.whole ∙ ap (λ (l : List (List ℤ)). u.pr ++ l) (v.whole ∙ ap (λ (l : List (List ℤ)). v.pr ++ l) w.whole);
+        shape_b = u.shape_r;
+        shape_a = v.shape_r;
+        shape_r = w.shape_r;
+        shape_z = w.shape_z;
+        all_b = u.all_r;
+        all_a = v.all_r;
+        all_r = w.all_r;
+        all_z = w.all_z;
       }
 
   steps : (ps : List (List ℤ)) → Shaped (stepped s cs) ps → AllSamples ps → Steps ps
   unfolding Lists.stepped
-  steps ps h f = steps_by ps s.inplace h f refl
+  steps ps h f =
+      let u = cut (before s cs) (averages s cs ++ following s cs) ps h f in
+      let v = cut (averages s cs) (following s cs) u.pz u.shape_z u.all_z in
+      steps_by ps u v (both s.inplace (residuals s cs) (after s cs) v.pz v.shape_z v.all_z)
 
-  -- ---- residuals and the parts behind the range keep shape and samples in either order
-  arranged_shaped : (inplace : Bool) (rs zs : List Channel) (pr pz : List (List ℤ)) → Shaped rs pr → Shaped zs pz
-      → Shaped (arranged inplace rs zs) (arranged inplace pr pz)
-  arranged_shaped true rs zs pr pz h k = shaped_append rs zs pr pz h k
-  arranged_shaped false rs zs pr pz h k = shaped_append zs rs pz pr k h
+  -- how many parts there are
+  long_before : (ps : List (List ℤ)) → Shaped (before s cs) ps → length ps ≡ s.begin
+  long_before ps h = shaped_length (before s cs) ps h ∙ length_before s cs inside
 
-  arranged_all : (inplace : Bool) (pr pz : List (List ℤ)) → AllSamples pr → AllSamples pz → AllSamples (arranged inplace pr pz)
-  arranged_all true pr pz f g = all_append pr pz f g
-  arranged_all false pr pz f g = all_append pz pr g f
+  long_range : (ps : List (List ℤ)) → Shaped (range s cs) ps → length ps ≡ s.number
+  long_range ps h = shaped_length (range s cs) ps h ∙ length_range s cs inside
 
-  map_count : (f : Channel → Channel) (ds : List Channel) → length (map f ds) ≡ length ds
-  map_count f [] = refl
-  map_count f (d ∷ ds) = ap suc (map_count f ds)
+  long_made : (f : Channel → Channel) (ps : List (List ℤ)) → Shaped (map f (range s cs)) ps → length ps ≡ s.number
+  long_made f ps h = shaped_length (map f (range s cs)) ps h ∙ map_length f (range s cs) ∙ length_range s cs inside
+
+  long_after : (ps : List (List ℤ)) → Shaped (after s cs) ps → length ps ≡ behind s cs
+  long_after ps h = shaped_length (after s cs) ps h ∙ length_after_lem s cs inside
 
   -- ---- forward
   module _ (ps : List (List ℤ)) (p : Pieces ps) where
-    forward_pieces : forward_parts s cs ps
-        ≡ p.qb ++ (each (channel_averages s.horizontal) (range s cs) p.qr
-        ++ arranged s.inplace (each (channel_residuals s.horizontal) (range s cs) p.qr) p.qz)
-    forward_pieces =
-        rw p.whole
-        (forward_of p.qb p.qr p.qz (shaped_length (before s cs) p.qb p.shape_b ∙ length_before) (shaped_length (range s cs) p.qr p.shape_r ∙ length_range))
+    abbrev qa : List (List ℤ)
+    qa = each (channel_averages s.horizontal) (range s cs) p.qr
+
+    abbrev qs : List (List ℤ)
+    qs = each (channel_residuals s.horizontal) (range s cs) p.qr
+
+    shape_qa : Shaped (averages s cs) qa
+    shape_qa = averages_shaped s.horizontal (range s cs) p.qr p.shape_r
+
+    shape_qs : Shaped (residuals s cs) qs
+    shape_qs = residuals_shaped s.horizontal (range s cs) p.qr p.shape_r
+
+    forward_pieces : forward_parts s cs ps ≡ p.qb ++ (qa ++ joined s.inplace qs p.qz)
+    forward_pieces = rw p.whole (forward_of p.qb p.qr (long_before p.qb p.shape_b) (long_range p.qr p.shape_r) p.qz)
 
     forward_shaped : Shaped (stepped s cs) (forward_parts s cs ps)
     unfolding Lists.stepped
     forward_shaped =
-        let h = s.horizontal in
-        let r = range s cs in
         rw forward_pieces
         (shaped_append (before s cs) _ p.qb _ p.shape_b
-        (shaped_append (map (average h) r) _ (each (channel_averages h) r p.qr) _ (averages_shaped h r p.qr p.shape_r)
-        (arranged_shaped s.inplace (map (residual h) r) (after s cs) (each (channel_residuals h) r p.qr) p.qz (residuals_shaped h r p.qr p.shape_r) p.shape_z)))
+        (shaped_append (averages s cs) _ qa _ shape_qa (joined_shaped s.inplace (residuals s cs) (after s cs) qs p.qz shape_qs p.shape_z)))
 
     forward_all : AllSamples (forward_parts s cs ps)
     forward_all =
         let h = s.horizontal in
         let r = range s cs in
         rw forward_pieces
-        (all_append p.qb _ p.all_b
-        (all_append (each (channel_averages h) r p.qr) _ (all_averages h r p.qr p.all_r)
-        (arranged_all s.inplace (each (channel_residuals h) r p.qr) p.qz (all_residuals h r p.qr) p.all_z)))
+        (All-append Samples p.qb _ p.all_b
+        (All-append Samples qa _ (all_averages h r p.qr p.all_r) (joined_all s.inplace qs p.qz (all_residuals h r p.qr p.all_r) p.all_z)))
 
     -- there and back
     back_forward : back_parts s cs (forward_parts s cs ps) ≡ ps
     back_forward =
-        let h = s.horizontal in
-        let r = range s cs in
-        let qa = each (channel_averages h) r p.qr in
-        let qs = each (channel_residuals h) r p.qr in
-        let nb = shaped_length (before s cs) p.qb p.shape_b ∙ length_before in
-        let na = shaped_length (map (average h) r) qa (averages_shaped h r p.qr p.shape_r) ∙ map_count (average h) r ∙ length_range in
-        let nr = shaped_length (map (residual h) r) qs (residuals_shaped h r p.qr p.shape_r) ∙ map_count (residual h) r ∙ length_range in
-        let nz = shaped_length (after s cs) p.qz p.shape_z ∙ length_after_lem in
-        rw forward_pieces (back_of p.qb qa qs p.qz nb na nr nz ∙ rw (range_again h r p.qr p.shape_r p.all_r) (sym p.whole))
+        rw forward_pieces
+        (back_of p.qb qa (long_before p.qb p.shape_b) (long_made (average s.horizontal) qa shape_qa) qs p.qz (long_made (residual s.horizontal) qs shape_qs) (long_after p.qz p.shape_z)
+        ∙ rw (range_again s.horizontal (range s cs) p.qr p.shape_r p.all_r) (sym p.whole))
 
   -- ---- back
   module _ (ps : List (List ℤ)) (p : Steps ps) where
-    back_pieces : back_parts s cs ps ≡ p.pb ++ (all_back s.horizontal (range s cs) p.pa p.pr ++ p.pz)
-    back_pieces =
-        let h = s.horizontal in
-        let r = range s cs in
-        rw p.whole
-        (back_of p.pb p.pa p.pr p.pz
-        (shaped_length (before s cs) p.pb p.shape_b ∙ length_before)
-        (shaped_length (map (average h) r) p.pa p.shape_a ∙ map_count (average h) r ∙ length_range)
-        (shaped_length (map (residual h) r) p.pr p.shape_r ∙ map_count (residual h) r ∙ length_range)
-        (shaped_length (after s cs) p.pz p.shape_z ∙ length_after_lem))
+    abbrev qr : List (List ℤ)
+    qr = all_back s.horizontal (range s cs) p.pa p.pr
+
+    shape_qr : Shaped (range s cs) qr
+    shape_qr = back_shaped s.horizontal (range s cs) p.pa p.pr p.shape_a p.shape_r
+
+    lb : length p.pb ≡ s.begin
+    lb = long_before p.pb p.shape_b
+
+    la : length p.pa ≡ s.number
+    la = long_made (average s.horizontal) p.pa p.shape_a
+
+    lr : length p.pr ≡ s.number
+    lr = long_made (residual s.horizontal) p.pr p.shape_r
+
+    lz : length p.pz ≡ behind s cs
+    lz = long_after p.pz p.shape_z
+
+    back_pieces : back_parts s cs ps ≡ p.pb ++ (qr ++ p.pz)
+    back_pieces = rw p.whole (back_of p.pb p.pa lb la p.pr p.pz lr lz)
 
     back_shape : Shaped cs (back_parts s cs ps)
     back_shape =
-        let h = s.horizontal in
-        let r = range s cs in
         rw back_pieces
         (rw (parts_whole s cs) at
-        (shaped_append (before s cs) (r ++ after s cs) p.pb (all_back h r p.pa p.pr ++ p.pz) p.shape_b
-        (shaped_append r (after s cs) (all_back h r p.pa p.pr) p.pz (back_shaped h r p.pa p.pr p.shape_a p.shape_r) p.shape_z)))
+        (shaped_append (before s cs) (range s cs ++ after s cs) p.pb (qr ++ p.pz) p.shape_b
+        (shaped_append (range s cs) (after s cs) qr p.pz shape_qr p.shape_z)))
 
     back_all : AllSamples (back_parts s cs ps)
     back_all =
-        let h = s.horizontal in
-        let r = range s cs in
         rw back_pieces
-        (all_append p.pb _ p.all_b (all_append (all_back h r p.pa p.pr) p.pz (all_back_lem h r p.pa p.pr p.all_a) p.all_z))
+        (All-append Samples p.pb _ p.all_b
+        (All-append Samples qr p.pz (all_back_lem s.horizontal (range s cs) p.pa p.pr p.all_a) p.all_z))
 
     -- back and there
     forward_back : forward_parts s cs (back_parts s cs ps) ≡ ps
     forward_back =
-        let h = s.horizontal in
-        let r = range s cs in
-        let qr = all_back h r p.pa p.pr in
-        let nb = shaped_length (before s cs) p.pb p.shape_b ∙ length_before in
-        let nr = shaped_length r qr (back_shaped h r p.pa p.pr p.shape_a p.shape_r) ∙ length_range in
-        rw back_pieces
-        (forward_of p.pb qr p.pz nb nr
-        ∙ rw (range_averages h r p.pa p.pr p.shape_a p.shape_r p.all_a p.all_r, range_residuals h r p.pa p.pr p.shape_a p.shape_r p.all_a p.all_r)
-        (sym p.whole))
+        let e = range_back s.horizontal (range s cs) p.pa p.pr p.shape_a p.shape_r p.all_a p.all_r in
+        rw back_pieces (forward_of p.pb qr lb (long_range qr shape_qr) p.pz ∙ rw (e.0, e.1) (sym p.whole))
 
-  -- the averages and the residuals among the parts have the shapes that the step gives them
+    -- the averages and the residuals among the parts have the shapes that the step gives them
+    shapes_in : Shaped (averages s cs) (take s.number (drop s.begin ps)) × Shaped (residuals s cs) (residual_parts s cs (drop (s.begin + s.number) ps))
+    shapes_in =
+        let v = joined s.inplace p.pr p.pz in (
+          rw (p.whole, middle p.pb p.pa lb la v) p.shape_a,
+          rw (p.whole, skip p.pb p.pa lb la v, residuals_in p.pb p.pa lb la p.pr p.pz lr lz) p.shape_r,
+        )
+
   pub step_shapes : (ps : List (List ℤ)) → Shaped (stepped s cs) ps → AllSamples ps
-      → Shaped (map (average s.horizontal) (range s cs)) (take s.number (drop s.begin ps))
-      × Shaped (map (residual s.horizontal) (range s cs)) (residual_parts s cs (drop (s.begin + s.number) ps))
-  step_shapes ps h f =
-      let p = steps ps h f in
-      let r = range s cs in
-      let v = arranged s.inplace p.pr p.pz in
-      let nb = shaped_length (before s cs) p.pb p.shape_b ∙ length_before in
-      let na = shaped_length (map (average s.horizontal) r) p.pa p.shape_a ∙ map_count (average s.horizontal) r ∙ length_range in
-      let nr = shaped_length (map (residual s.horizontal) r) p.pr p.shape_r ∙ map_count (residual s.horizontal) r ∙ length_range in
-      let nz = shaped_length (after s cs) p.pz p.shape_z ∙ length_after_lem in (
-        rw (p.whole, middle p.pb p.pa p.pr p.pz nb na v) p.shape_a,
-        rw (p.whole, skip p.pb p.pa p.pr p.pz nb na v, residuals_in p.pb p.pa p.pr p.pz nb na nr nz) p.shape_r,
-      )
+      → Shaped (averages s cs) (take s.number (drop s.begin ps)) × Shaped (residuals s cs) (residual_parts s cs (drop (s.begin + s.number) ps))
+  step_shapes ps h f = shapes_in ps (steps ps h f)
 
   -- ---- on slices
   module _ (xs : List ℤ) (long : length xs ≡ total cs) (f : Samples xs) where

@@ -1,32 +1,38 @@
 -- Slices cut into one part a channel and put together again (specs/Parts.antt): parts of the right lengths (`Shaped`) and slices of a list's
 -- total are the same thing, and 32-bit samples stay so. Assumes nothing.
 use mathlib.Core.Path.{◌≡◌, refl, sym, ap}
+use mathlib.Core.Bool.{true}
 use mathlib.Core.List.{List, [], ◌∷◌, ◌++◌, append_assoc}
-use mathlib.Core.Logic.{◌⊎◌, inl, inr}
-use Prim.Native.Nat.{ℕ, zero, suc, ◌+◌, ◌-◌, ◌<◌, ◌≤◌}
+use Prim.Native.Nat.{suc, ◌+◌, ◌≤◌}
 use native.Mathlib.Omega.{arith}
+use borrow.Author.Tests.{eqb-true}
 use lib.IntN.{ℤ, pos}
-use lib.ListN.{length, get_or, take, drop, length-append, length-take, length-drop, get_or-append, take-append-drop}
-use lib.Seq.{take_at, drop_at, get_or-take, get_or-drop, get_or-append-add, length-take-le}
+use lib.ListN.{length, take, drop, length-append, length-drop, take-append-drop}
+use lib.Seq.{take_at, drop_at, length-take-le}
+use Rattle.std.specs.List.{All, AllZip}
+use Rattle.std.proofs.lemmas.List.Elements.{All-nil, All-cons, All-head, All-tail, All-from_get_or, All-append, All-take, All-drop}
 use Rattle.arith32.specs.Arith.{Sample}
 use Rattle.channel.specs.declared.Channel.{Channel}
 use Rattle.channel.specs.Channel.{samples}
+use Rattle.list.specs.declared.Step.{Step}
 use Rattle.list.specs.Lists.{total}
-use Rattle.line.proofs.Lines.{lt_or_ge}
+use Rattle.list.specs.Questions.{judge_step}
+use Rattle.list.proofs.Acceptance.{step_accepted}
 use Rattle.line.specs.Forward.{Samples}
 use Rattle.runs.specs.Parts.{parts, joined}
+use Rattle.runs.specs.Runs.{is_taken}
 
 -- one part for each channel, as long as the channel has samples
 abbrev pub Shaped : List Channel → List (List ℤ) → Type 0
-Shaped [] [] = Unit {0}
-Shaped [] (p ∷ ps) = ⊥
-Shaped (c ∷ cs) [] = ⊥
-Shaped (c ∷ cs) (p ∷ ps) = (length p ≡ samples c) × Shaped cs ps
+Shaped cs ps = AllZip (λ c p. length p ≡ samples c) cs ps
 
 -- all parts hold 32-bit samples
 abbrev pub AllSamples : List (List ℤ) → Type 0
-AllSamples [] = Unit {0}
-AllSamples (p ∷ ps) = Samples p × AllSamples ps
+AllSamples ps = All Samples ps
+
+-- an accepted step's range lies inside the list
+pub taken_inside : (s : Step) (cs : List Channel) → is_taken s cs ≡ true → s.begin + s.number ≤ length cs
+taken_inside s cs e = (step_accepted s cs (eqb-true (judge_step s cs) 0 e)).inside
 
 pub shaped_length : (cs : List Channel) (ps : List (List ℤ)) → Shaped cs ps → length ps ≡ length cs
 shaped_length [] [] h = refl
@@ -87,48 +93,19 @@ shaped_back (c ∷ cs) ds [] h = absurd h
 shaped_back (c ∷ cs) ds (p ∷ ps) h = shaped_back cs ds ps h.1
 
 -- ---- samples
-pub samples_take : (n : ℕ) (xs : List ℤ) → Samples xs → Samples (take n xs)
-samples_take n xs f i h =
-    let l = length-take n xs in
-    let hn : i < n = omega arith in
-    let hx : i < length xs = omega arith in
-    rw (get_or-take n xs i (pos 0) hn) (f i hx)
+all_of : (xs : List ℤ) → Samples xs → All Sample xs
+all_of xs f = All-from_get_or Sample xs (pos 0) f
 
-pub samples_drop : (n : ℕ) (xs : List ℤ) → Samples xs → Samples (drop n xs)
-samples_drop n xs f i h =
-    let l = length-drop n xs in
-    let hx : n + i < length xs = omega arith in
-    rw (get_or-drop n xs i (pos 0)) (f (n + i) hx)
-
-pub samples_append : (xs ys : List ℤ) → Samples xs → Samples ys → Samples (xs ++ ys)
-samples_append xs ys f g i h = by (lt_or_ge i (length xs))
-  where
-    by : (i < length xs) ⊎ (length xs ≤ i) → Sample (get_or (xs ++ ys) i (pos 0))
-    by (inl l) = rw (get_or-append xs ys (pos 0) i l) (f i l)
-    by (inr l) =
-        let e : i ≡ length xs + (i - length xs) = omega arith in
-        let n = length-append xs ys in
-        let k : i - length xs < length ys = omega arith in
-        rw e (rw (get_or-append-add xs ys (i - length xs) (pos 0)) (g (i - length xs) k))
+samples_append : (xs ys : List ℤ) → Samples xs → Samples ys → Samples (xs ++ ys)
+samples_append xs ys f g i h = All-append Sample xs ys (all_of xs f) (all_of ys g) i (pos 0) h
 
 pub parts_samples : (cs : List Channel) (xs : List ℤ) → Samples xs → AllSamples (parts cs xs)
-parts_samples [] xs f = tt
-parts_samples (c ∷ cs) xs f = (samples_take (samples c) xs f, parts_samples cs (drop (samples c) xs) (samples_drop (samples c) xs f))
+parts_samples [] xs f = All-nil Samples
+parts_samples (c ∷ cs) xs f =
+    All-cons Samples (take (samples c) xs) (parts cs (drop (samples c) xs))
+    (λ i h. All-take Sample (samples c) xs (all_of xs f) i (pos 0) h)
+    (parts_samples cs (drop (samples c) xs) (λ i h. All-drop Sample (samples c) xs (all_of xs f) i (pos 0) h))
 
 pub joined_samples : (ps : List (List ℤ)) → AllSamples ps → Samples (joined ps)
 joined_samples [] f = λ i h. absurd (omega arith)
-joined_samples (p ∷ ps) f = samples_append p (joined ps) f.0 (joined_samples ps f.1)
-
-pub all_append : (ps qs : List (List ℤ)) → AllSamples ps → AllSamples qs → AllSamples (ps ++ qs)
-all_append [] qs f g = g
-all_append (p ∷ ps) qs f g = (f.0, all_append ps qs f.1 g)
-
-pub all_take : (n : ℕ) (ps : List (List ℤ)) → AllSamples ps → AllSamples (take n ps)
-all_take zero ps f = tt
-all_take (suc n) [] f = tt
-all_take (suc n) (p ∷ ps) f = (f.0, all_take n ps f.1)
-
-pub all_drop : (n : ℕ) (ps : List (List ℤ)) → AllSamples ps → AllSamples (drop n ps)
-all_drop zero ps f = f
-all_drop (suc n) [] f = tt
-all_drop (suc n) (p ∷ ps) f = all_drop n ps f.1
+joined_samples (p ∷ ps) f = samples_append p (joined ps) (All-head Samples p ps f) (joined_samples ps (All-tail Samples p ps f))

@@ -3,31 +3,23 @@
 use mathlib.Core.Path.{◌≡◌, refl, sym, ap, ◌∙◌}
 use mathlib.Core.Bool.{Bool, true, false, cond}
 use mathlib.Core.List.{List, [], ◌∷◌}
-use Prim.Native.Nat.{◌+◌, ◌≤◌}
-use borrow.Author.Tests.{eqb-true}
 use lib.IntN.{ℤ}
-use lib.ListN.{length}
 use Rattle.channel.specs.declared.Channel.{Channel}
 use Rattle.list.specs.declared.Step.{Step}
 use Rattle.list.specs.Lists.{stepped}
-use Rattle.list.specs.Questions.{judge_step}
-use Rattle.list.proofs.Acceptance.{step_accepted}
 use Rattle.runs.specs.Runs.{is_taken, layout, rebuilt, squeezed, step_back, step_forward}
 use Rattle.runs.specs.Claim.{Fills, ExactlyOne}
+use Rattle.runs.proofs.Shapes.{taken_inside}
 use Rattle.runs.proofs.OneStep.{forward_length, forward_samples, step_again, back_length, back_samples, back_again}
-
--- an accepted step's range lies inside the list
-inside : (s : Step) (cs : List Channel) → is_taken s cs ≡ true → s.begin + s.number ≤ length cs
-inside s cs e = (step_accepted s cs (eqb-true (judge_step s cs) 0 e)).inside
 
 forward_fills : (s : Step) (cs : List Channel) (xs : List ℤ) → is_taken s cs ≡ true → Fills cs xs → Fills (stepped s cs) (step_forward s cs xs)
 forward_fills s cs xs e f =
-    let i = inside s cs e in
+    let i = taken_inside s cs e in
     record { long = forward_length s cs i xs f.long f.samples; samples = forward_samples s cs i xs f.long f.samples }
 
 back_fills : (s : Step) (cs : List Channel) (xs : List ℤ) → is_taken s cs ≡ true → Fills (stepped s cs) xs → Fills cs (step_back s cs xs)
 back_fills s cs xs e f =
-    let i = inside s cs e in
+    let i = taken_inside s cs e in
     record { long = back_length s cs i xs f.long f.samples; samples = back_samples s cs i xs f.long f.samples }
 
 -- ---- the writer's pyramid fills the layout and rebuilds to the picture
@@ -49,7 +41,7 @@ squeezed_rebuilds (s ∷ ss) cs xs f = by (is_taken s cs) refl (squeezed_rebuild
         (rebuilt ss cs (cond b (squeezed ss (stepped s cs) (step_forward s cs xs)) (squeezed ss cs xs)))
         ≡ xs
     by true e rest =
-        rw (rest (stepped s cs) (step_forward s cs xs) (forward_fills s cs xs e f)) (step_again s cs (inside s cs e) xs f.long f.samples)
+        rw (rest (stepped s cs) (step_forward s cs xs) (forward_fills s cs xs e f)) (step_again s cs (taken_inside s cs e) xs f.long f.samples)
     by false e rest = rest cs xs f
 
 -- ---- a pyramid of the layout rebuilds to a picture of the list, and is that picture's pyramid
@@ -76,7 +68,7 @@ rebuilt_squeezes (s ∷ ss) cs ys f = by (is_taken s cs) refl f (rebuilt_fills s
     by true e g fills rest =
         let zs = rebuilt ss (stepped s cs) ys in
         let h = fills (stepped s cs) ys g in
-        rw (back_again s cs (inside s cs e) zs h.long h.samples) (rest (stepped s cs) ys g)
+        rw (back_again s cs (taken_inside s cs e) zs h.long h.samples) (rest (stepped s cs) ys g)
     by false e g fills rest = rest cs ys g
 
 -- Demand 3, over a whole list of steps of any length
