@@ -4,7 +4,7 @@ use mathlib.Core.Path.{◌≡◌, refl}
 use mathlib.Core.Logic.{◌⊎◌, inl, inr}
 use Prim.Native.Nat.{ℕ, zero, suc, ◌+◌, ◌-◌, ◌<◌, ◌≤◌}
 use native.Mathlib.Omega.{arith}
-use Rattle.line.proofs.Lines.{lt_or_ge}
+use Rattle.std.proofs.lemmas.Bool.{cases_lt}
 
 pub record Consecutive (start long : ℕ → ℕ) (n total : ℕ) : Type 0 where
   pub some : 0 < total → 0 < n
@@ -39,7 +39,7 @@ module _ (start long : ℕ → ℕ) (n total : ℕ) (c : Consecutive start long 
       go d e = let l = later i d (omega (arith, b.inside)) in let r = rw e at b.from in omega (arith, a.below)
 
   one_only : (x i j : ℕ) → At start long n x i → At start long n x j → i ≡ j
-  one_only x i j a b = by (lt_or_ge i j) (lt_or_ge j i)
+  one_only x i j a b = by (cases_lt i j) (cases_lt j i)
     where
       by : (i < j) ⊎ (j ≤ i) → (j < i) ⊎ (i ≤ j) → i ≡ j
       by (inl h) g = absurd (apart x i j a b h)
@@ -52,7 +52,7 @@ module _ (start long : ℕ → ℕ) (n total : ℕ) (c : Consecutive start long 
   -- what lies below the end of stretch i lies in it or in one before
   found : (x i : ℕ) → i < n → x < start i + long i → ExactlyOne start long n x
   found x zero hi h = here x 0 (record { inside = hi; from = omega (arith, c.first hi); below = h })
-  found x (suc i) hi h = by (lt_or_ge x (start (suc i))) (found x i (omega arith))
+  found x (suc i) hi h = by (cases_lt x (start (suc i))) (found x i (omega arith))
     where
       by : (x < start (suc i)) ⊎ (start (suc i) ≤ x) → (x < start i + long i → ExactlyOne start long n x) → ExactlyOne start long n x
       by (inl l) rest =

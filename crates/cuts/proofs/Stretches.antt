@@ -16,7 +16,8 @@ use Rattle.cuts.specs.Cut.{Strip, StripFits, is_last, tile_averages, tile_residu
 use Rattle.tile.specs.Call.{answer, after}
 use Rattle.line.proofs.Tables.{table_cong}
 use Rattle.line.proofs.Places.{line_room, position_room}
-use Rattle.line.proofs.Lines.{Fits, Stretch, stretch_sample, sample_second, before_next, before_first, next_inside, next_last, lt_or_ge}
+use Rattle.std.proofs.lemmas.Bool.{cases_lt}
+use Rattle.line.proofs.Lines.{Fits, Stretch, stretch_sample, sample_second, before_next, before_first, next_inside, next_last}
 use Rattle.line.proofs.Outputs.{outer_at, outer_part, uncut_at, line_averages, line_residuals, line_avg, line_res, line_next, line_prev}
 use Rattle.cuts.proofs.Parts.{part_length, part_at, across_length, across_at}
 use Rattle.tile.proofs.Accepted.{Arguments, accepted, accepted_after}
@@ -55,7 +56,7 @@ module _ (s : Squeeze) (fs : Fitting s) (p : Strip) (fp : StripFits s p) where
     goes_on : t + 1 < p.tiles → is_last p t ≡ false → p.from t + tile_averages s p t ≡ p.from (t + 1) → p.from t + tile_residuals s p t ≡ p.from (t + 1) → Which t
 
   pub which : (t : ℕ) → t < p.tiles → Which t
-  which t h = by_order (lt_or_ge (t + 1) p.tiles)
+  which t h = by_order (cases_lt (t + 1) p.tiles)
     where
       by_order : (t + 1 < p.tiles) ⊎ (p.tiles ≤ t + 1) → Which t
       by_order (inl l) =
@@ -137,7 +138,7 @@ module _ (s : Squeeze) (fs : Fitting s) (p : Strip) (fp : StripFits s p) where
     tile_next_lem : (slices : ℕ → List ℤ) (t i : ℕ) → t < p.tiles → i < tile_residuals s p t
         → next_average (line_of (tile_squeeze slices t) k) i ≡ next_average (line_of s (p.start + k)) (p.from t + i)
     tile_next_lem slices t i ht hi =
-        by (lt_or_ge (i + 1) (tile_averages s p t)) (which t ht) (line_averages (tile_squeeze slices t) k) (line_averages s (p.start + k))
+        by (cases_lt (i + 1) (tile_averages s p t)) (which t ht) (line_averages (tile_squeeze slices t) k) (line_averages s (p.start + k))
       where
         by : (i + 1 < tile_averages s p t) ⊎ (tile_averages s p t ≤ i + 1) → Which t
             → (line_of (tile_squeeze slices t) k).averages ≡ tile_averages s p t → (line_of s (p.start + k)).averages ≡ s.averages

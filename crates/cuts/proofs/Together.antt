@@ -16,7 +16,7 @@ use Rattle.tile.specs.Call.{Call, answer, after}
 use Rattle.cuts.specs.Cut.{Cut, tile_size, tile_out, tile_call, State, Event, runs, other, on, stored, happens, together, allowed, all_allowed, Begins, AllRan}
 use Rattle.cuts.specs.Claim as Claim
 use Rattle.cuts.specs.Claim.{AllAccepted, AllHold, GiveUncut}
-use Rattle.line.proofs.Lines.{lt_or_ge}
+use Rattle.std.proofs.lemmas.Bool.{cases_lt}
 use Rattle.tile.proofs.Fitted.{refused_after}
 use Rattle.cuts.proofs.Parts.{part_length}
 use Rattle.cuts.proofs.Stretches.{Left, tile_after}
@@ -92,7 +92,7 @@ module _ (s : Squeeze) (fs : Fitting s) (cut : Cut s) where
     where
       -- a tile of which less than the raised count is asked, and which is not the one that ran, ran before
       before : (i t : ℕ) → (i ≡ k → t ≡ state.done k → ⊥) → t < cond (eqb i k) (suc (state.done i)) (state.done i) → t < state.done i
-      before i t n = raised_elim (λ (m : ℕ). t < m → t < state.done i) state.done k i (λ ei l. less ei l (lt_or_ge t (state.done i))) (λ _ l. l)
+      before i t n = raised_elim (λ (m : ℕ). t < m → t < state.done i) state.done k i (λ ei l. less ei l (cases_lt t (state.done i))) (λ _ l. l)
         where
           less : i ≡ k → t < suc (state.done i) → (t < state.done i) ⊎ (state.done i ≤ t) → t < state.done i
           less ei l (inl m) = m

@@ -1,5 +1,5 @@
--- Average, next average, previous output and residual of a line (`average_at` and the rest of crate line) case by case, as the functions meet
--- them; what stands at entry x of row y of the averages or residuals; and how far the rows reach. Assumes nothing.
+-- Next average, previous output and residual of a line (`next_at` and the rest of crate line) case by case, as the functions meet them; what stands
+-- at entry x of row y of the averages or residuals; and how far the rows reach. Assumes nothing.
 use mathlib.Core.Path.{◌≡◌, refl, sym, ◌∙◌}
 use mathlib.Core.Bool.{Bool, true, false, cond}
 use mathlib.Core.List.{List}
@@ -18,14 +18,6 @@ use Rattle.forward.specs.Rows.{average_entry, residual_entry}
 
 -- ---- along a line
 module _ (x : ℕ → ℤ) (size i : ℕ) where
-  pub average_pair : i + i + 1 < size → average_at x size i ≡ P.average (x (i + i)) (x (i + i + 1))
-  unfolding F.average_at
-  average_pair h = rw (lt-ltb (i + i + 1) size h)
-
-  pub average_tail : size ≤ i + i + 1 → average_at x size i ≡ x (i + i)
-  unfolding F.average_at
-  average_tail h = rw (le-ltb (i + i + 1) size h)
-
   pub next_inside : i + i + 2 < size → next_at x size i ≡ average_at x size (i + 1)
   unfolding F.next_at
   next_inside h = let l : i + 1 < average_count size = omega arith in rw (lt-ltb (i + 1) (average_count size) l)

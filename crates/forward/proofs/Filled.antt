@@ -10,7 +10,7 @@ use lib.ListN.{length, get_or, set, take, drop, length-append, length-drop, get_
 use lib.Seq.{get_or-set_same, get_or-set_other, get_or-take, get_or-append-add, length-take-le}
 use Rattle.line.specs.Uncut.{table}
 use Rattle.forward.specs.Rows.{Filled}
-use Rattle.line.proofs.Lines.{lt_or_ge}
+use Rattle.std.proofs.lemmas.Bool.{cases_lt}
 use Rattle.line.proofs.Tables.{is_table, table_at, table_length}
 
 module _ (f : ℕ → ℤ) where
@@ -22,7 +22,7 @@ module _ (f : ℕ → ℤ) where
 
   -- one entry more
   pub filled_set : (n : ℕ) (out : List ℤ) (v : ℤ) → n < length out → v ≡ f n → Filled f n out → Filled f (n + 1) (set out n v)
-  filled_set n out v h e p j l = by (lt_or_ge j n)
+  filled_set n out v h e p j l = by (cases_lt j n)
     where
       by : (j < n) ⊎ (n ≤ j) → get_or (set out n v) j (pos 0) ≡ f j
       by (inl b) = get_or-set_other out n j v (pos 0) (λ s. omega arith) ∙ p j b
@@ -31,7 +31,7 @@ module _ (f : ℕ → ℤ) where
   -- n entries more, in a part that was lent
   pub filled_part : (s k n m : ℕ) (old part : List ℤ) → s ≤ length old → n ≤ length part → ((x : ℕ) → x < n → get_or part x (pos 0) ≡ f (s + x))
       → Filled f s old → m ≡ s + n → Filled f m (take s old ++ (part ++ drop k (drop s old)))
-  filled_part s k n m old part h long same p em j l = by (lt_or_ge j s)
+  filled_part s k n m old part h long same p em j l = by (cases_lt j s)
     where
       front : length (take s old) ≡ s
       front = length-take-le s old h

@@ -13,10 +13,11 @@ use Rattle.numbers.specs.Numbers.{max_side}
 use Rattle.line.specs.Uncut.{table}
 use Rattle.line.specs.Forward as F
 use Rattle.line.specs.Forward.{average_count, residual_count, averages_of, residuals_of, line_in}
-use Rattle.line.proofs.Lines.{lt_or_ge}
+use Rattle.std.proofs.lemmas.Bool.{cases_lt}
 use Rattle.forward.specs.Rows.{average_entry, residual_entry, Filled}
 use Rattle.forward.specs.Into.{slices_fit, squeezed_into}
-use Rattle.forward.proofs.Entries.{average_tail, average_entry_lem}
+use Rattle.line.proofs.Alone.{average_tail}
+use Rattle.forward.proofs.Entries.{average_entry_lem}
 use Rattle.forward.proofs.Filled.{filled_all}
 
 -- ---- all entries
@@ -42,7 +43,7 @@ module _ (lines size : ℕ) (xs : List ℤ) (h : size < 2) where
   pub tails_alone : length xs ≡ lines * size → xs ≡ averages_of true lines size xs
   tails_alone whole =
       let e : average_count size ≡ size = omega arith in
-      averages_all true lines size xs xs (rw e whole) (λ j l. by j (lt_or_ge 0 size) l)
+      averages_all true lines size xs xs (rw e whole) (λ j l. by j (cases_lt 0 size) l)
     where
       by : (j : ℕ) → (0 < size) ⊎ (size ≤ 0) → j < lines * average_count size → get_or xs j (pos 0) ≡ average_entry true lines size xs j
       by j (inl p) l =

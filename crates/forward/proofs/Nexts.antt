@@ -12,9 +12,10 @@ use Rattle.arith32.proofs.Whole.{natural, equal, difference_law}
 use Rattle.arith32.proofs.Residues.{wrap_id}
 use Rattle.pair.specs.Pair as P
 use Rattle.line.specs.Forward.{next_at}
-use Rattle.line.proofs.Lines.{lt_or_ge}
+use Rattle.std.proofs.lemmas.Bool.{cases_lt}
 use Rattle.forward.specs.Rows.{next_first}
-use Rattle.forward.proofs.Entries.{average_pair, average_tail, next_inside, next_last}
+use Rattle.line.proofs.Alone.{average_pair, average_tail}
+use Rattle.forward.proofs.Entries.{next_inside, next_last}
 
 -- ---- a sample with itself
 nothing_off : (x : ℤ) → x -ℤ pos 0 ≡ x
@@ -38,7 +39,7 @@ module _ (size i : ℕ) where
   first_own h = rw (le-ltb (i + i + 2) size h)
 
 pub first_inside : (size i : ℕ) → i + i + 1 < size → next_first size i < size
-first_inside size i h = by (lt_or_ge (i + i + 2) size)
+first_inside size i h = by (cases_lt (i + i + 2) size)
   where
     by : (i + i + 2 < size) ⊎ (size ≤ i + i + 2) → next_first size i < size
     by (inl l) = rw (first_after size i l) l
@@ -50,7 +51,7 @@ next_second size first = min (first + 1) (size - 1)
 -- ---- their average
 pub next_average_lem : (x : ℕ → ℤ) (size i : ℕ) → i + i + 1 < size → Sample (x (next_first size i))
     → next_at x size i ≡ P.average (x (next_first size i)) (x (next_second size (next_first size i)))
-next_average_lem x size i h f = by (lt_or_ge (i + i + 2) size) (lt_or_ge (i + i + 3) size)
+next_average_lem x size i h f = by (cases_lt (i + i + 2) size) (cases_lt (i + i + 3) size)
   where
     by : (i + i + 2 < size) ⊎ (size ≤ i + i + 2) → (i + i + 3 < size) ⊎ (size ≤ i + i + 3)
         → next_at x size i ≡ P.average (x (next_first size i)) (x (next_second size (next_first size i)))

@@ -4,9 +4,8 @@ use mathlib.Core.Path.{◌≡◌, sym, ◌∙◌}
 use mathlib.Core.Bool.{true, false}
 use mathlib.Core.List.{List}
 use mathlib.Core.Logic.{◌⊎◌, inl, inr}
-use Prim.Native.Nat.{ℕ, zero, suc, ◌+◌, ◌-◌, ◌*◌, ◌<◌, ◌≤◌}
+use Prim.Native.Nat.{ℕ, ◌+◌, ◌-◌, ◌*◌, ◌<◌, ◌≤◌}
 use native.Mathlib.Omega.{arith}
-use borrow.Author.Tests.{lt-ltb, le-ltb}
 use lib.IntN.{ℤ, pos}
 use lib.ListN.{length, get_or, take, drop}
 use lib.Seq.{get_or-drop, get_or-take}
@@ -15,16 +14,18 @@ use Rattle.arith32.specs.Arith.{Sample}
 use Rattle.pair.specs.Pair as P
 use Rattle.line.specs.Uncut.{table}
 use Rattle.line.specs.Forward.{average_count, residual_count, average_at, next_at, prev_at, residual_at, line_in}
-use Rattle.line.proofs.Lines.{lt_or_ge}
+use Rattle.std.proofs.lemmas.Bool.{cases_lt}
 use Rattle.line.proofs.Tables.{table_cong}
+use Rattle.line.proofs.Alone.{average_pair, average_tail}
+use Rattle.line.proofs.ThereAndBack.{average_cong, residual_cong}
 use Rattle.forward.specs.Rows.{along, average_entry, residual_entry, sample_over, Read, average_over, residual_over, next_first}
-use Rattle.forward.proofs.Entries.{average_pair, average_tail, next_inside, residual_pair, prev_later, average_entry_lem, residual_entry_lem}
+use Rattle.forward.proofs.Entries.{next_inside, residual_pair, prev_later, average_entry_lem, residual_entry_lem}
 use Rattle.forward.proofs.Nexts.{next_second, next_average_lem}
 
 -- ---- what was read, one more each turn
 module _ (step : ℕ) (xs : List ℤ) where
   pub read_more : (n : ℕ) → mag (sample_over xs step n) < 2147483648 → Read n step xs → Read (n + 1) step xs
-  read_more n m r x h = by (lt_or_ge x n)
+  read_more n m r x h = by (cases_lt x n)
     where
       by : (x < n) ⊎ (n ≤ x) → Sample (sample_over xs step x)
       by (inl l) = r x l
@@ -71,33 +72,6 @@ module _ (line : List ℤ) where
       (sym (next_inside (along line) n (1 + e) (omega arith) ∙ average_pair (along line) n (1 + e + 1) (omega arith))))
       (ahead 1 (1 + e + (1 + e) - 1) e (omega arith) (omega arith) ∙ sym (prev_later (along line) n (1 + e) (λ (z : 1 + e ≡ 0). omega arith)))
 
--- ---- lines that agree on their samples
-module _ (x y : ℕ → ℤ) (n : ℕ) (e : (i : ℕ) → i < n → x i ≡ y i) where
-  average_agrees : (i : ℕ) → i < average_count n → average_at x n i ≡ average_at y n i
-  unfolding average_at
-  average_agrees i h = by (lt_or_ge (i + i + 1) n)
-    where
-      by : (i + i + 1 < n) ⊎ (n ≤ i + i + 1) → average_at x n i ≡ average_at y n i
-      by (inl p) = rw (lt-ltb (i + i + 1) n p, e (i + i) (omega arith), e (i + i + 1) p)
-      by (inr p) = rw (le-ltb (i + i + 1) n p) (e (i + i) (omega arith))
-
-  next_agrees : (i : ℕ) → i < average_count n → next_at x n i ≡ next_at y n i
-  unfolding next_at
-  next_agrees i h = by (lt_or_ge (i + 1) (average_count n))
-    where
-      by : (i + 1 < average_count n) ⊎ (average_count n ≤ i + 1) → next_at x n i ≡ next_at y n i
-      by (inl p) = rw (lt-ltb (i + 1) (average_count n) p) (average_agrees (i + 1) p)
-      by (inr p) = rw (le-ltb (i + 1) (average_count n) p) (average_agrees i h)
-
-  prev_agrees : (i : ℕ) → i < average_count n → prev_at x n i ≡ prev_at y n i
-  unfolding prev_at
-  prev_agrees zero h = average_agrees 0 h
-  prev_agrees (suc i) h = e (i + i + 1) (omega arith)
-
-  residual_agrees : (i : ℕ) → i < residual_count n → residual_at x n i ≡ residual_at y n i
-  unfolding residual_at
-  residual_agrees i h = rw (e (i + i) (omega arith), e (i + i + 1) (omega arith), next_agrees i (omega arith), prev_agrees i (omega arith))
-
 -- ---- rows of a slice
 module _ (count width : ℕ) (xs : List ℤ) where
   abbrev pub row : ℕ → List ℤ
@@ -107,14 +81,14 @@ module _ (count width : ℕ) (xs : List ℤ) where
   pub line_average : (y x : ℕ) → y < count → x < average_count width
       → average_at (along (row y)) width x ≡ average_entry true count width xs (y * average_count width + x)
   line_average y x h l =
-      average_agrees (along (row y)) (line_in true count width xs y) width
+      average_cong (along (row y)) (line_in true count width xs y) width
       (λ i p. get_or-take width (drop (y * width) xs) i (pos 0) p ∙ get_or-drop (y * width) xs i (pos 0)) x l
       ∙ average_entry_lem true count width xs y x l
 
   pub line_residual : (y x : ℕ) → y < count → x < residual_count width
       → residual_at (along (row y)) width x ≡ residual_entry true count width xs (y * residual_count width + x)
   line_residual y x h l =
-      residual_agrees (along (row y)) (line_in true count width xs y) width
+      residual_cong (along (row y)) (line_in true count width xs y) width
       (λ i p. get_or-take width (drop (y * width) xs) i (pos 0) p ∙ get_or-drop (y * width) xs i (pos 0)) x l
       ∙ residual_entry_lem true count width xs y x l
 

@@ -14,15 +14,16 @@ use Rattle.arith32.specs.Arith.{Sample}
 use Rattle.pair.specs.Pair.{first, second, average}
 use Rattle.pair.proofs.Inverse.{bijection}
 use Rattle.line.specs.Line.{Line, next_average, before, sample}
-use Rattle.line.proofs.Lines.{Half, even, odd, half, sample_first, sample_second, sample_tail, before_next, before_first, next_inside, next_last, lt_or_ge}
+use Rattle.std.proofs.lemmas.Bool.{cases_lt}
+use Rattle.line.proofs.Lines.{Half, even, odd, half, sample_first, sample_second, sample_tail, before_next, before_first, next_inside, next_last}
 use Rattle.line.specs.Forward.{average_count, residual_count, average_at, next_at, prev_at, residual_at}
 
 -- ---- average i, inside a pair and at an odd end
-average_pair : (x : ℕ → ℤ) (size i : ℕ) → i + i + 1 < size → average_at x size i ≡ average (x (i + i)) (x (i + i + 1))
+pub average_pair : (x : ℕ → ℤ) (size i : ℕ) → i + i + 1 < size → average_at x size i ≡ average (x (i + i)) (x (i + i + 1))
 unfolding average_at
 average_pair x size i h = rw (lt-ltb (i + i + 1) size h)
 
-average_tail : (x : ℕ → ℤ) (size i : ℕ) → size ≤ i + i + 1 → average_at x size i ≡ x (i + i)
+pub average_tail : (x : ℕ → ℤ) (size i : ℕ) → size ≤ i + i + 1 → average_at x size i ≡ x (i + i)
 unfolding average_at
 average_tail x size i h = rw (le-ltb (i + i + 1) size h)
 
@@ -67,7 +68,7 @@ module _ (x : ℕ → ℤ) (size : ℕ) (f : (i : ℕ) → i < size → Sample (
       at_pair i l (inr p) = sample_tail (squeezed_line x size) i (omega arith) ∙ average_tail x size i p
 
       by : Half j → sample (squeezed_line x size) j ≡ x j
-      by (even i e) = rw e (at_pair i (omega arith) (lt_or_ge (i + i + 1) size))
+      by (even i e) = rw e (at_pair i (omega arith) (cases_lt (i + i + 1) size))
       by (odd i e) =
           rw e
           (sample_second (squeezed_line x size) i (omega arith) ∙ rw (next_is i, before_is i (omega arith)) (pair_second i (omega arith)))
@@ -76,8 +77,8 @@ module _ (x : ℕ → ℤ) (size : ℕ) (f : (i : ℕ) → i < size → Sample (
 -- a line alone, of samples, whose sizes are those of `size` samples
 module _ (l : Line) (size : ℕ) (ea : l.averages ≡ average_count size) (er : l.residuals ≡ residual_count size) (no-next : l.next ≡ [])
     (no-prev : l.prev ≡ []) (fa : (i : ℕ) → i < l.averages → Sample (l.avg i)) (fr : (i : ℕ) → i < l.residuals → Sample (l.res i)) where
-  average_again : (i : ℕ) → i < l.averages → average_at (sample l) size i ≡ l.avg i
-  average_again i h = by (lt_or_ge (i + i + 1) size)
+  pub averages_again : (i : ℕ) → i < l.averages → average_at (sample l) size i ≡ l.avg i
+  averages_again i h = by (cases_lt (i + i + 1) size)
     where
       by : (i + i + 1 < size) ⊎ (size ≤ i + i + 1) → average_at (sample l) size i ≡ l.avg i
       by (inl p) =
@@ -88,23 +89,20 @@ module _ (l : Line) (size : ℕ) (ea : l.averages ≡ average_count size) (er : 
 
   next_again : (i : ℕ) → i < l.residuals → next_at (sample l) size i ≡ next_average l i
   unfolding next_at
-  next_again i h = by (lt_or_ge (i + 1) (average_count size))
+  next_again i h = by (cases_lt (i + 1) (average_count size))
     where
       by : (i + 1 < average_count size) ⊎ (average_count size ≤ i + 1)
           → cond (ltb (i + 1) (average_count size)) (average_at (sample l) size (i + 1)) (average_at (sample l) size i) ≡ next_average l i
       by (inl p) =
-          rw (lt-ltb (i + 1) (average_count size) p) (average_again (i + 1) (omega arith) ∙ sym (next_inside l i (omega arith)))
+          rw (lt-ltb (i + 1) (average_count size) p) (averages_again (i + 1) (omega arith) ∙ sym (next_inside l i (omega arith)))
       by (inr p) =
           rw (le-ltb (i + 1) (average_count size) p)
-          (average_again i (omega arith) ∙ sym (next_last l i (omega arith) ∙ rw no-next))
+          (averages_again i (omega arith) ∙ sym (next_last l i (omega arith) ∙ rw no-next))
 
   prev_again : (i : ℕ) → i ≤ l.residuals → 0 < l.averages → prev_at (sample l) size i ≡ before l i
   unfolding prev_at
-  prev_again zero h s = average_again 0 s ∙ sym (before_first l ∙ rw no-prev)
+  prev_again zero h s = averages_again 0 s ∙ sym (before_first l ∙ rw no-prev)
   prev_again (suc i) h s = sample_second l i h ∙ sym (before_next l i)
-
-  pub averages_again : (i : ℕ) → i < l.averages → average_at (sample l) size i ≡ l.avg i
-  averages_again = average_again
 
   pub residuals_again : (i : ℕ) → i < l.residuals → residual_at (sample l) size i ≡ l.res i
   unfolding residual_at

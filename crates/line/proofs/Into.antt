@@ -1,25 +1,24 @@
 -- The test whether sizes and slices fit (`fits` of specs/Into.antt): its value by its parts, and that it says what `Fitting` says, in either
 -- direction. So `uncut_into` is the uncut squeeze where sizes fit, and what was there where they do not. Assumes nothing.
-use mathlib.Core.Path.{◌≡◌, refl, sym, ap, subst, ◌∙◌}
-use mathlib.Core.Bool.{Bool, true, false, ◌&&◌, ◌||◌}
+use mathlib.Core.Path.{◌≡◌, refl, sym, ap, ◌∙◌}
+use mathlib.Core.Bool.{Bool, true, false, ◌&&◌, ◌||◌, and-eq-true_iff}
 use mathlib.Core.List.{List}
 use mathlib.Core.Logic.{◌⊎◌, inl, inr}
 use Prim.Native.Nat.{ℕ, ◌+◌, ◌*◌, ◌<◌, ◌≤◌}
 use native.Mathlib.Omega.{arith}
 use borrow.Author.Tests.{leb-true, eqb-true, le-leb, lt-leb, eq-eqb}
-use lib.Dec.{T, eqb, leb}
+use lib.Dec.{eqb, leb}
 use lib.IntN.{ℤ, pos}
 use lib.ListN.{length}
 use lib.Seq.{ext_get_or}
 use Rattle.line.specs.Uncut.{Squeeze, squeeze, Fitting, uncut}
 use Rattle.line.specs.Into.{outer_fits, fits, uncut_into}
-use Rattle.line.proofs.Lines.{lt_or_ge}
+use Rattle.std.proofs.lemmas.Bool.{cases_lt}
 use Rattle.line.proofs.Outputs.{uncut_length}
 
 -- ---- both parts of a conjunction
 pub and_true : (a b : Bool) → a && b ≡ true → (a ≡ true) × (b ≡ true)
-and_true true b e = (refl, e)
-and_true false b e = absurd (subst T (sym e) tt)
+and_true a b = (and-eq-true_iff a b).0
 
 -- ---- an outer line
 pub outer_line : (lines : ℕ) (xs : List ℤ) → outer_fits lines xs ≡ true → (length xs ≡ 0) ⊎ (length xs ≡ lines)
@@ -104,14 +103,14 @@ module _ {horizontal : Bool} {lines m n : ℕ} {avg res next prev : List ℤ} (f
   -- where there is a sample there are lines, and an average in each
   module _ (out : List ℤ) (long : length out ≡ lines * (m + n)) (some : length out ≡ 0 → ⊥) where
     pub some_averages : 0 < m
-    some_averages = by_order (lt_or_ge 0 m)
+    some_averages = by_order (cases_lt 0 m)
       where
         by_order : (0 < m) ⊎ (m ≤ 0) → 0 < m
         by_order (inl l) = l
         by_order (inr g) = let z : m + n ≡ 0 = omega (arith, fitting.low) in absurd (some (long ∙ ap (λ (x : ℕ). lines * x) z ∙ omega arith))
 
     pub some_lines : 0 < lines
-    some_lines = by_order (lt_or_ge 0 lines)
+    some_lines = by_order (cases_lt 0 lines)
       where
         by_order : (0 < lines) ⊎ (lines ≤ 0) → 0 < lines
         by_order (inl l) = l

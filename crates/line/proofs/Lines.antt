@@ -7,17 +7,12 @@ use mathlib.Core.Logic.{◌⊎◌, inl, inr}
 use Prim.Native.Nat.{ℕ, zero, suc, ◌+◌, ◌/◌, ◌%◌, ◌<◌, ◌≤◌}
 use native.Mathlib.Omega.{arith}
 use borrow.Author.Tests.{lt-ltb, le-ltb}
-use lib.Dec.{T, ltb, ltb→lt, nltb→le}
-use mathlib.Core.Bool.{not}
+use Rattle.std.proofs.lemmas.Bool.{cases_lt}
 use Rattle.line.specs.Line.{Line, or_else, next_average, before, first_at, second_at, sample}
 
 -- ---- comparisons
-by_test : (k w : ℕ) (t : Bool) → (T t → k < w) → (T (not t) → w ≤ k) → (k < w) ⊎ (w ≤ k)
-by_test k w true y n = inl (y tt)
-by_test k w false y n = inr (n tt)
-
 pub lt_or_ge : (k w : ℕ) → (k < w) ⊎ (w ≤ k)
-lt_or_ge k w = by_test k w (ltb k w) (ltb→lt k w) (nltb→le k w)
+lt_or_ge = cases_lt
 
 -- ---- the samples of a pair, and the tail
 pub sample_first : (l : Line) (i : ℕ) → i < l.residuals → sample l (i + i) ≡ first_at l i
@@ -118,7 +113,7 @@ module _ (l t : Line) (from : ℕ) (f : Fits t) (s : Stretch l t from) where
           rw (e, d) (sample_tail t i p ∙ s.avg_same i b ∙ sym (sample_tail l (from + i) q))
 
       by_half : Half j → sample t j ≡ sample l (from + from + j)
-      by_half (even i e) = at_pair i e (lt_or_ge i t.residuals)
+      by_half (even i e) = at_pair i e (cases_lt i t.residuals)
       by_half (odd i e) =
           let p : i < t.residuals = omega (arith, f.high) in
           let d : from + from + (i + i + 1) ≡ (from + i) + (from + i) + 1 = omega arith in
@@ -156,7 +151,7 @@ same_sample l t f s j h =
           room = omega (arith, s.residuals);
           avg_same = λ i p. let z : 0 + i ≡ i = omega arith in let b : i < l.averages = omega (arith, s.averages) in rw z (s.avg i b);
           res_same = λ i p. let z : 0 + i ≡ i = omega arith in let b : i < l.residuals = omega (arith, s.residuals) in rw z (s.res i b);
-          next_same = λ i p. next_same i p (lt_or_ge (i + 1) t.averages);
+          next_same = λ i p. next_same i p (cases_lt (i + 1) t.averages);
           before_same =
               let b : 0 < l.averages = omega (arith, s.averages, f.some) in
               before_first t ∙ rw (s.prev, s.avg 0 b) (sym (before_first l));

@@ -1,14 +1,16 @@
 -- What stands in the lines of a squeeze and in its uncut output (specs/Uncut.antt), and in a strip's part of an outer line. Assumes nothing.
 use mathlib.Core.Path.{◌≡◌, refl, sym, ◌∙◌}
 use mathlib.Core.List.{List, [], ◌∷◌}
-use Prim.Native.Nat.{ℕ, zero, suc, ◌+◌, ◌*◌, ◌<◌}
+use Prim.Native.Nat.{ℕ, ◌+◌, ◌-◌, ◌*◌, ◌<◌}
 use native.Mathlib.Omega.{arith}
 use lib.IntN.{ℤ, pos}
 use lib.ListN.{length, get_or, take, drop}
+use lib.Seq.{drop-cons, drop-drop, drop-nil, take-take}
+use Rattle.std.proofs.lemmas.List.{drop-take}
 use Rattle.line.specs.Line.{sample}
 use Rattle.line.specs.Uncut.{Squeeze, place, size, outer, line_of, output_at, uncut}
-use Rattle.line.proofs.Tables.{table_length, table_at}
-use Rattle.line.proofs.Places.{line_back, position_back, place_room_lem}
+use Rattle.line.proofs.Tables.{table_length}
+use Rattle.line.proofs.Places.{entry_at}
 
 -- ---- what lies at a place of the uncut output
 pub uncut_length : (s : Squeeze) → length (uncut s) ≡ s.lines * size s
@@ -18,11 +20,7 @@ uncut_length s = table_length (output_at s) 0 (s.lines * size s)
 pub uncut_at : (s : Squeeze) (k j : ℕ) → k < s.lines → j < size s
     → get_or (uncut s) (place s.horizontal s.lines (size s) k j) (pos 0) ≡ sample (line_of s k) j
 unfolding uncut output_at
-uncut_at s k j hk hj =
-    let q = place s.horizontal s.lines (size s) k j in
-    let z : 0 + q ≡ q = omega arith in
-    table_at (output_at s) 0 (s.lines * size s) q (place_room_lem s.horizontal s.lines (size s) k j hk hj)
-    ∙ rw (z, line_back s.horizontal s.lines (size s) k j hk hj, position_back s.horizontal s.lines (size s) k j hk hj)
+uncut_at s k j hk hj = entry_at s.horizontal s.lines (size s) (λ k i. sample (line_of s k) i) k j hk hj
 
 -- ---- the entries of a line
 module _ (s : Squeeze) (k : ℕ) where
@@ -53,24 +51,15 @@ module _ (s : Squeeze) (k : ℕ) where
 -- ---- outer lines
 -- the sample of a line that is there
 pub outer_at : (xs : List ℤ) (k : ℕ) → k < length xs → outer xs k ≡ get_or xs k (pos 0) ∷ []
-outer_at [] k h = absurd (omega arith)
-outer_at (x ∷ xs) zero h = refl
-outer_at (x ∷ xs) (suc k) h = outer_at xs k (omega arith)
+outer_at xs k h = rw (drop-cons xs k (pos 0) h)
 
 -- an absent line has none
 pub outer_none : (k : ℕ) → outer [] k ≡ []
-outer_none zero = refl
-outer_none (suc k) = refl
+outer_none k = rw (drop-nil {A = ℤ} k)
 
 -- a strip's part of an outer line gives the strip's lines what the whole gives them
 pub outer_part : (xs : List ℤ) (start lines k : ℕ) → k < lines → outer (take lines (drop start xs)) k ≡ outer xs (start + k)
-outer_part xs start zero k h = absurd (omega arith)
-outer_part [] zero (suc lines) k h = let z : 0 + k ≡ k = omega arith in rw z refl
-outer_part [] (suc start) (suc lines) k h = outer_none k ∙ sym (outer_none (suc start + k))
-outer_part (x ∷ xs) zero (suc lines) zero h = refl
-outer_part (x ∷ xs) zero (suc lines) (suc k) h =
-    let z : 0 + suc k ≡ suc k = omega arith in
-    let y : 0 + k ≡ k = omega arith in
-    rw z (outer_part xs zero lines k (omega arith) ∙ rw y)
-outer_part (x ∷ xs) (suc start) (suc lines) k h =
-    let z : suc start + k ≡ suc (start + k) = omega arith in rw z (outer_part xs start (suc lines) k h)
+outer_part xs start lines k h =
+    let e : k + (lines - k) ≡ lines = omega arith in
+    let d : drop k (take lines (drop start xs)) ≡ take (lines - k) (drop k (drop start xs)) = rw e at (drop-take k (lines - k) (drop start xs)) in
+    rw (d, drop-drop k start xs) (take-take 1 (lines - k) (drop (start + k) xs) (omega arith))

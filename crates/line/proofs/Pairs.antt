@@ -16,7 +16,8 @@ use Rattle.line.specs.Uncut.{Squeeze, Fitting, line_at, position_at, outer, line
 use Rattle.line.specs.Pairs.{Lines, inner, avg_at, res_at, at, output_before, Ordinary, Ended}
 use Rattle.line.proofs.Tables.{is_table}
 use Rattle.line.proofs.Places.{line_room, position_room, place_back, position_back}
-use Rattle.line.proofs.Lines.{Half, even, odd, half, lt_or_ge, sample_first, sample_second, sample_tail, before_next, next_inside}
+use Rattle.std.proofs.lemmas.Bool.{cases_lt}
+use Rattle.line.proofs.Lines.{Half, even, odd, half, sample_first, sample_second, sample_tail, before_next, next_inside}
 
 -- ---- places
 -- different positions of lines lie apart
@@ -77,8 +78,8 @@ module _ {t : Lines} where
   join {prior} {mid} {after} {old} {between} {new} {a} {c} {d} low room o p =
       record {
         long = p.long ∙ o.long;
-        firsts = λ k n hk hn. first_at k n hk hn (lt_or_ge n c);
-        seconds = λ k n hk hn. second_at_lem k n hk hn (lt_or_ge n c);
+        firsts = λ k n hk hn. first_at k n hk hn (cases_lt n c);
+        seconds = λ k n hk hn. second_at_lem k n hk hn (cases_lt n c);
         handed = λ k hk. p.handed k hk ∙ before_join (avg_at t k) (res_at t k) (prior k) (mid k) a c d (o.handed k hk);
         kept = λ q off.
             p.kept q (λ k n hk hn. let e : a + c + n ≡ a + (c + n) = omega arith in rw e (off k (c + n) hk (omega arith)))
@@ -161,7 +162,7 @@ module _ {s : Squeeze} (fitting : Fitting s) where
           ∙ u.done k i hk l
 
       by_half : (k i : ℕ) → k < s.lines → i < a + count + (a + count) → Half i → get_or new (at (inner s) k i) (pos 0) ≡ sample (line_of s k) i
-      by_half k i hk hi (even p e) = by_order (lt_or_ge i (a + a))
+      by_half k i hk hi (even p e) = by_order (cases_lt i (a + a))
         where
           by_order : (i < a + a) ⊎ (a + a ≤ i) → get_or new (at (inner s) k i) (pos 0) ≡ sample (line_of s k) i
           by_order (inl l) = kept k i hk l
@@ -172,7 +173,7 @@ module _ {s : Squeeze} (fitting : Fitting s) where
               (o.firsts k n hk (omega arith)
               ∙ rw (same_before s k (prior k) a n (omega arith) (eb k hk))
               (sym (sample_first (line_of s k) (a + n) (omega arith) ∙ rw (next_inside (line_of s k) (a + n) (omega arith)) refl)))
-      by_half k i hk hi (odd p e) = by_order (lt_or_ge i (a + a))
+      by_half k i hk hi (odd p e) = by_order (cases_lt i (a + a))
         where
           by_order : (i < a + a) ⊎ (a + a ≤ i) → get_or new (at (inner s) k i) (pos 0) ≡ sample (line_of s k) i
           by_order (inl l) = kept k i hk l
@@ -287,7 +288,7 @@ put_together {s} {prior} {after} {old} {mid} {new} {i} fitting room eb o e =
         rw f (e.tails k hk h ∙ rw t (sym (sample_tail (line_of s k) s.residuals (omega arith))))
 
     by_order : (k j : ℕ) → k < s.lines → j < size s → get_or new (at (inner s) k j) (pos 0) ≡ sample (line_of s k) j
-    by_order k j hk hj = by_place k j hk hj (lt_or_ge j (i + i)) (lt_or_ge j (i + i + 1)) (lt_or_ge j (i + i + 2))
+    by_order k j hk hj = by_place k j hk hj (cases_lt j (i + i)) (cases_lt j (i + i + 1)) (cases_lt j (i + i + 2))
 
 -- without a pair the averages are copied
 pub copied : {s : Squeeze} {new : List ℤ} → Fitting s → s.residuals ≡ 0 → length new ≡ s.lines * size s

@@ -13,7 +13,8 @@ use Rattle.standard.proofs.Agree.{first_standard, second_standard}
 use Rattle.line.specs.Line.{Line, next_average, before, sample}
 use Rattle.line.specs.Uncut.{Squeeze, Fitting, place, size, uncut, line_of}
 use Rattle.line.specs.Plain.{InDomainWhole, IsStandard}
-use Rattle.line.proofs.Lines.{Fits, sample_second, before_next, before_first, next_inside, next_last, lt_or_ge}
+use Rattle.std.proofs.lemmas.Bool.{cases_lt}
+use Rattle.line.proofs.Lines.{Fits, sample_second, before_next, before_first, next_inside, next_last}
 use Rattle.line.proofs.Places.{place_room_lem}
 use Rattle.line.proofs.Outputs.{outer_none}
 use Rattle.line.proofs.Outputs.{uncut_at, uncut_length, line_averages, line_residuals, line_avg, line_res, line_next, line_prev}
@@ -27,7 +28,7 @@ module _ (l : Line) (f : Fits l) (no-next : l.next ≡ []) (no-prev : l.prev ≡
   next_is i = rw no-next
 
   next_domain : (i : ℕ) → i < l.residuals → InDomain (next_average l i)
-  next_domain i h = by (lt_or_ge (i + 1) l.averages)
+  next_domain i h = by (cases_lt (i + 1) l.averages)
     where
       by : (i + 1 < l.averages) ⊎ (l.averages ≤ i + 1) → InDomain (next_average l i)
       by (inl p) = rw (next_inside l i p) (da (i + 1) p)
@@ -47,7 +48,7 @@ module _ (l : Line) (f : Fits l) (no-next : l.next ≡ []) (no-prev : l.prev ≡
 
   pub line_standard : (j : ℕ) → sample l j ≡ Std.out l.avg l.res l.averages l.residuals j
   unfolding sample Std.out
-  line_standard j = by (lt_or_ge (j / 2) l.residuals)
+  line_standard j = by (cases_lt (j / 2) l.residuals)
     where
       i : ℕ
       i = j / 2

@@ -16,13 +16,14 @@ use Rattle.line.specs.Line.{Line, next_average, before, sample}
 use Rattle.line.specs.Uncut.{Squeeze, place, line_at, position_at, size, table, line_of, output_at, uncut}
 use Rattle.line.specs.Forward.{average_count, residual_count, average_at, next_at, prev_at, residual_at, line_in, averages_of, residuals_of}
 use Rattle.line.proofs.Tables.{table_length, table_at}
-use Rattle.line.proofs.Lines.{Half, even, odd, half, sample_first, sample_second, sample_tail, lt_or_ge}
+use Rattle.std.proofs.lemmas.Bool.{cases_lt}
+use Rattle.line.proofs.Lines.{Half, even, odd, half, sample_first, sample_second, sample_tail}
 use Rattle.line.proofs.Outputs.{line_avg}
 use Rattle.line.specs.Forward.{Samples}
 
 -- an element of a slice of samples, or the zero past its end
 pub element : (xs : List ℤ) → Samples xs → (i : ℕ) → Sample (get_or xs i (pos 0))
-element xs f i = by (lt_or_ge i (length xs))
+element xs f i = by (cases_lt i (length xs))
   where
     by : (i < length xs) ⊎ (length xs ≤ i) → Sample (get_or xs i (pos 0))
     by (inl l) = f i l
@@ -52,8 +53,8 @@ sample_sample l f j = by (half j)
     odd_place i (inr p) = rw (past l i p) (f i)
 
     by : Half j → Sample (sample l j)
-    by (even i e) = rw e (even_place i (lt_or_ge i l.residuals))
-    by (odd i e) = rw e (odd_place i (lt_or_ge i l.residuals))
+    by (even i e) = rw e (even_place i (cases_lt i l.residuals))
+    by (odd i e) = rw e (odd_place i (cases_lt i l.residuals))
 
 pub uncut_samples : (s : Squeeze) → Samples s.avg → Samples (uncut s)
 unfolding uncut output_at
@@ -67,7 +68,7 @@ uncut_samples s f =
 -- ---- forward
 average_sample : (x : ℕ → ℤ) (n i : ℕ) → ((j : ℕ) → Sample (x j)) → Sample (average_at x n i)
 unfolding average_at
-average_sample x n i f = by (lt_or_ge (i + i + 1) n)
+average_sample x n i f = by (cases_lt (i + i + 1) n)
   where
     by : (i + i + 1 < n) ⊎ (n ≤ i + i + 1) → Sample (average_at x n i)
     by (inl p) = rw (lt-ltb (i + i + 1) n p) ((bijection (pos 0) (pos 0)).sample_average (x (i + i)) (x (i + i + 1)))

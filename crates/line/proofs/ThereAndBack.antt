@@ -1,6 +1,6 @@
 -- A channel's lines together: rebuilding undoes the writer's averages and residuals, and the other way round (Alone.antt, line by line).
 -- Assumes nothing.
-use mathlib.Core.Path.{◌≡◌, sym, ap, ◌∙◌}
+use mathlib.Core.Path.{◌≡◌, sym, ◌∙◌}
 use mathlib.Core.Bool.{Bool}
 use mathlib.Core.List.{List, []}
 use mathlib.Core.Logic.{◌⊎◌, inl, inr}
@@ -11,13 +11,13 @@ use lib.IntN.{ℤ, pos}
 use lib.ListN.{length, get_or}
 use Rattle.arith32.specs.Arith.{Sample}
 use Rattle.line.specs.Line.{sample}
-use Rattle.line.specs.Uncut.{Squeeze, squeeze, place, line_at, position_at, size, line_of, output_at, uncut}
+use Rattle.line.specs.Uncut.{Squeeze, squeeze, place, size, line_of, output_at, uncut}
 use Rattle.line.specs.Forward.{average_count, residual_count, average_at, next_at, prev_at, residual_at, line_in, averages_of, residuals_of, Samples}
-use Rattle.line.proofs.Tables.{table_length, table_at, is_table}
-use Rattle.line.proofs.Places.{line_back, position_back, place_back, place_room_lem, line_room, position_room}
-use Rattle.line.proofs.Lines.{Fits, Same, same_sample, lt_or_ge}
-use Rattle.line.proofs.Outputs.{outer_none}
-use Rattle.line.proofs.Outputs.{uncut_at, line_averages, line_residuals, line_avg, line_res, line_next, line_prev}
+use Rattle.line.proofs.Tables.{table_length}
+use Rattle.line.proofs.Places.{place_room_lem, entry_at, is_entries}
+use Rattle.std.proofs.lemmas.Bool.{cases_lt}
+use Rattle.line.proofs.Lines.{Fits, Same, same_sample}
+use Rattle.line.proofs.Outputs.{outer_none, uncut_at, line_averages, line_residuals, line_avg, line_res, line_next, line_prev}
 use Rattle.line.proofs.Alone.{squeezed_line, line_again, averages_again, residuals_again}
 
 -- ---- what stands at a place of the averages and of the residuals
@@ -33,22 +33,12 @@ module _ (h : Bool) (lines n : ℕ) (xs : List ℤ) where
   averages_at : (k i : ℕ) → k < lines → i < average_count n
       → get_or (averages_of h lines n xs) (place h lines (average_count n) k i) (pos 0) ≡ average_at (line_in h lines n xs k) n i
   unfolding averages_of
-  averages_at k i hk hi =
-      let m = average_count n in
-      let j = place h lines m k i in
-      let z : 0 + j ≡ j = omega arith in
-      table_at (λ j. average_at (line_in h lines n xs (line_at h lines m j)) n (position_at h lines m j)) 0 (lines * m) j (place_room_lem h lines m k i hk hi)
-      ∙ rw (z, line_back h lines m k i hk hi, position_back h lines m k i hk hi)
+  averages_at = entry_at h lines (average_count n) (λ k i. average_at (line_in h lines n xs k) n i)
 
   residuals_at_lem : (k i : ℕ) → k < lines → i < residual_count n
       → get_or (residuals_of h lines n xs) (place h lines (residual_count n) k i) (pos 0) ≡ residual_at (line_in h lines n xs k) n i
   unfolding residuals_of
-  residuals_at_lem k i hk hi =
-      let m = residual_count n in
-      let j = place h lines m k i in
-      let z : 0 + j ≡ j = omega arith in
-      table_at (λ j. residual_at (line_in h lines n xs (line_at h lines m j)) n (position_at h lines m j)) 0 (lines * m) j (place_room_lem h lines m k i hk hi)
-      ∙ rw (z, line_back h lines m k i hk hi, position_back h lines m k i hk hi)
+  residuals_at_lem = entry_at h lines (residual_count n) (λ k i. residual_at (line_in h lines n xs k) n i)
 
 -- ---- there and back
 module _ (h : Bool) (lines n : ℕ) (xs : List ℤ) (long : length xs ≡ lines * n) (f : Samples xs) where
@@ -89,39 +79,33 @@ module _ (h : Bool) (lines n : ℕ) (xs : List ℤ) (long : length xs ≡ lines 
   pub rebuilt : uncut squeezed ≡ xs
   unfolding uncut output_at
   rebuilt =
-      sym (is_table (output_at squeezed) 0 (lines * size squeezed) xs (rw all_samples long)
-      (λ j hj.
-      let z : 0 + j ≡ j = omega arith in
-      let e : lines * size squeezed ≡ lines * n = rw all_samples in
-      let hj' : j < lines * n = omega arith in
-      rw (z, all_samples)
-      (sym (rebuilt_at (line_at h lines n j) (position_at h lines n j) (line_room h lines n j hj') (position_room h lines n j hj')
-      ∙ ap (λ (q : ℕ). get_or xs q (pos 0)) (place_back h lines n j)))))
+      sym (is_entries h lines (size squeezed) (λ k i. sample (line_of squeezed k) i) xs (rw all_samples long)
+      (λ k i hk hi. let l : i < n = omega arith in rw all_samples (sym (rebuilt_at k i hk l))))
 
 -- ---- lines that agree on their samples have the same averages and residuals
 module _ (x y : ℕ → ℤ) (n : ℕ) (e : (i : ℕ) → i < n → x i ≡ y i) where
-  average_cong : (i : ℕ) → i < average_count n → average_at x n i ≡ average_at y n i
+  pub average_cong : (i : ℕ) → i < average_count n → average_at x n i ≡ average_at y n i
   unfolding average_at
-  average_cong i h = by (lt_or_ge (i + i + 1) n)
+  average_cong i h = by (cases_lt (i + i + 1) n)
     where
       by : (i + i + 1 < n) ⊎ (n ≤ i + i + 1) → average_at x n i ≡ average_at y n i
       by (inl p) = rw (lt-ltb (i + i + 1) n p, e (i + i) (omega arith), e (i + i + 1) p)
       by (inr p) = rw (le-ltb (i + i + 1) n p) (e (i + i) (omega arith))
 
-  next_cong : (i : ℕ) → i < average_count n → next_at x n i ≡ next_at y n i
+  pub next_cong : (i : ℕ) → i < average_count n → next_at x n i ≡ next_at y n i
   unfolding next_at
-  next_cong i h = by (lt_or_ge (i + 1) (average_count n))
+  next_cong i h = by (cases_lt (i + 1) (average_count n))
     where
       by : (i + 1 < average_count n) ⊎ (average_count n ≤ i + 1) → next_at x n i ≡ next_at y n i
       by (inl p) = rw (lt-ltb (i + 1) (average_count n) p) (average_cong (i + 1) p)
       by (inr p) = rw (le-ltb (i + 1) (average_count n) p) (average_cong i h)
 
-  prev_cong : (i : ℕ) → i < average_count n → prev_at x n i ≡ prev_at y n i
+  pub prev_cong : (i : ℕ) → i < average_count n → prev_at x n i ≡ prev_at y n i
   unfolding prev_at
   prev_cong zero h = average_cong 0 h
   prev_cong (suc i) h = e (i + i + 1) (omega arith)
 
-  residual_cong : (i : ℕ) → i < residual_count n → residual_at x n i ≡ residual_at y n i
+  pub residual_cong : (i : ℕ) → i < residual_count n → residual_at x n i ≡ residual_at y n i
   unfolding residual_at
   residual_cong i h =
       rw (e (i + i) (omega arith), e (i + i + 1) (omega arith), next_cong i (omega arith), prev_cong i (omega arith))
@@ -135,6 +119,12 @@ module _ (h : Bool) (lines n : ℕ) (avg res : List ℤ) (la : length avg ≡ li
 
   in_all : size given ≡ n
   in_all = omega arith
+
+  no_next : (k : ℕ) → (line_of given k).next ≡ []
+  no_next k = line_next given k ∙ outer_none k
+
+  no_prev : (k : ℕ) → (line_of given k).prev ≡ []
+  no_prev k = line_prev given k ∙ outer_none k
 
   line_of_uncut : (k i : ℕ) → k < lines → i < n → line_in h lines n (uncut given) k i ≡ sample (line_of given k) i
   line_of_uncut k i hk hi =
@@ -156,35 +146,19 @@ module _ (h : Bool) (lines n : ℕ) (avg res : List ℤ) (la : length avg ≡ li
   pub averages_back : averages_of h lines n (uncut given) ≡ avg
   unfolding averages_of
   averages_back =
-      sym (is_table _ 0 (lines * average_count n) avg la
-      (λ j hj.
-      let m = average_count n in
-      let z : 0 + j ≡ j = omega arith in
-      let k = line_at h lines m j in
-      let i = position_at h lines m j in
-      let hk = line_room h lines m j hj in
-      let hi = position_room h lines m j hj in
+      sym (is_entries h lines (average_count n) (λ k i. average_at (line_in h lines n (uncut given) k) n i) avg la
+      (λ k i hk hi.
       let a = line_averages given k in
-      rw z
-      (sym (average_cong (line_in h lines n (uncut given) k) (sample (line_of given k)) n (λ i' hi'. line_of_uncut k i' hk hi') i hi
-      ∙ averages_again (line_of given k) n (line_averages given k) (line_residuals given k) (line_next given k ∙ outer_none k) (line_prev given k ∙ outer_none k) (avg_sample k hk) (res_sample k hk) i (omega arith)
-      ∙ line_avg given k i
-      ∙ ap (λ (q : ℕ). get_or avg q (pos 0)) (place_back h lines m j)))))
+      sym (average_cong (line_in h lines n (uncut given) k) (sample (line_of given k)) n (λ i' hi'. line_of_uncut k i' hk hi') i hi
+      ∙ averages_again (line_of given k) n (line_averages given k) (line_residuals given k) (no_next k) (no_prev k) (avg_sample k hk) (res_sample k hk) i (omega arith)
+      ∙ line_avg given k i)))
 
   pub residuals_back : residuals_of h lines n (uncut given) ≡ res
   unfolding residuals_of
   residuals_back =
-      sym (is_table _ 0 (lines * residual_count n) res lr
-      (λ j hj.
-      let m = residual_count n in
-      let z : 0 + j ≡ j = omega arith in
-      let k = line_at h lines m j in
-      let i = position_at h lines m j in
-      let hk = line_room h lines m j hj in
-      let hi = position_room h lines m j hj in
-      let a = line_residuals given k in
-      rw z
-      (sym (residual_cong (line_in h lines n (uncut given) k) (sample (line_of given k)) n (λ i' hi'. line_of_uncut k i' hk hi') i hi
-      ∙ residuals_again (line_of given k) n (line_averages given k) (line_residuals given k) (line_next given k ∙ outer_none k) (line_prev given k ∙ outer_none k) (avg_sample k hk) (res_sample k hk) i (omega arith)
-      ∙ line_res given k i
-      ∙ ap (λ (q : ℕ). get_or res q (pos 0)) (place_back h lines m j)))))
+      sym (is_entries h lines (residual_count n) (λ k i. residual_at (line_in h lines n (uncut given) k) n i) res lr
+      (λ k i hk hi.
+      let r = line_residuals given k in
+      sym (residual_cong (line_in h lines n (uncut given) k) (sample (line_of given k)) n (λ i' hi'. line_of_uncut k i' hk hi') i hi
+      ∙ residuals_again (line_of given k) n (line_averages given k) (line_residuals given k) (no_next k) (no_prev k) (avg_sample k hk) (res_sample k hk) i (omega arith)
+      ∙ line_res given k i)))

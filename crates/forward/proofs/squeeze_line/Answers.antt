@@ -10,7 +10,7 @@ use lib.ListN.{length, length-set}
 use Rattle.line.specs.Forward.{average_count, residual_count, average_at, residual_at}
 use Rattle.arith32.proofs.Whole.{back32}
 use Rattle.forward.specs.Rows.{along, Filled}
-use Rattle.forward.proofs.Entries.{average_tail}
+use Rattle.line.proofs.Alone.{average_tail}
 use Rattle.forward.proofs.Filled.{filled_none, filled_set, filled_table, filled_all}
 use Rattle.forward.proofs.Stretches.{inner_average, inner_residual}
 use Rattle.forward.proofs.squeeze_line.Goals.{then-n-gt0, else-n-gt0, then-n-gt1, else-n-gt1, then-n-gt2, else-n-gt2}

@@ -13,40 +13,36 @@ use Rattle.forward.proofs.Rows.squeeze_row.Goals as goal
 pub row-requires-3 : goal.row-requires-3
 row-requires-3 c = rw c.requires.after.0 (first_inside c.args.self.now.count c.args.y c.requires.pair)
 
-pub returns-then-y-eq0-clause-made : goal.returns-then-y-eq0-clause-made
-returns-then-y-eq0-clause-made c =
-    let r = c.args.self.now in
-    c.squeeze.ensures.made
-    ∙ row_averages r.count r.width r.samples.now c.args.y c.requires.pair c.row.result.now c.row-2.result.now c.row.ensures.value c.row-2.ensures.value
-
-pub returns-then-y-eq0-clause-left : goal.returns-then-y-eq0-clause-left
-returns-then-y-eq0-clause-left c =
+pub returns-then-y-eq0 : goal.returns-then-y-eq0
+returns-then-y-eq0 c =
     let r = c.args.self.now in
     let y = c.args.y in
-    c.squeeze.ensures.left
-    ∙ row_residuals r.count r.width r.samples.now y c.requires.pair c.row.result.now c.row-2.result.now c.row.ensures.value c.row-2.ensures.value
-    c.row-3.result.now c.row-4.result.now
-    (rw c.requires.after.0 at c.row-3.ensures.value)
-    (rw (c.requires.after.1, c.requires.after.0) at c.row-4.ensures.value)
-    c.squeeze.ensures.read (λ i average. average)
-    (λ e l. sym (prev_first (line_in false r.width r.count r.samples.now e) r.count y c.if-y-eq0.true))
+    record {
+      made = c.squeeze.ensures.made ∙ row_averages r.count r.width r.samples.now y c.requires.pair c.row.result.now c.row-2.result.now c.row.ensures.value c.row-2.ensures.value;
+      left =
+          c.squeeze.ensures.left
+          ∙ row_residuals r.count r.width r.samples.now y c.requires.pair c.row.result.now c.row-2.result.now c.row.ensures.value c.row-2.ensures.value
+          c.row-3.result.now c.row-4.result.now
+          (rw c.requires.after.0 at c.row-3.ensures.value)
+          (rw (c.requires.after.1, c.requires.after.0) at c.row-4.ensures.value)
+          c.squeeze.ensures.read (λ i average. average)
+          (λ e l. sym (prev_first (line_in false r.width r.count r.samples.now e) r.count y c.if-y-eq0.true));
+    }
 
-pub returns-else-y-eq0-clause-made : goal.returns-else-y-eq0-clause-made
-returns-else-y-eq0-clause-made c =
-    let r = c.args.self.now in
-    c.squeeze-else-y-eq0.ensures.made
-    ∙ row_averages r.count r.width r.samples.now c.args.y c.requires.pair c.row.result.now c.row-2.result.now c.row.ensures.value c.row-2.ensures.value
-
-pub returns-else-y-eq0-clause-left : goal.returns-else-y-eq0-clause-left
-returns-else-y-eq0-clause-left c =
+pub returns-else-y-eq0 : goal.returns-else-y-eq0
+returns-else-y-eq0 c =
     let r = c.args.self.now in
     let y = c.args.y in
     let before = c.row-samples in
-    c.squeeze-else-y-eq0.ensures.left
-    ∙ row_residuals r.count r.width r.samples.now y c.requires.pair c.row.result.now c.row-2.result.now c.row.ensures.value c.row-2.ensures.value
-    c.row-3.result.now c.row-4.result.now
-    (rw c.requires.after.0 at c.row-3.ensures.value)
-    (rw (c.requires.after.1, c.requires.after.0) at c.row-4.ensures.value)
-    c.squeeze-else-y-eq0.ensures.read (λ i average. get_or before.result.now i (pos 0))
-    (row_before r.count r.width r.samples.now y c.requires.pair c.row.result.now c.row-2.result.now c.row.ensures.value c.row-2.ensures.value
-    before.result.now before.ensures.value c.if-y-eq0.false)
+    record {
+      made = c.squeeze-else-y-eq0.ensures.made ∙ row_averages r.count r.width r.samples.now y c.requires.pair c.row.result.now c.row-2.result.now c.row.ensures.value c.row-2.ensures.value;
+      left =
+          c.squeeze-else-y-eq0.ensures.left
+          ∙ row_residuals r.count r.width r.samples.now y c.requires.pair c.row.result.now c.row-2.result.now c.row.ensures.value c.row-2.ensures.value
+          c.row-3.result.now c.row-4.result.now
+          (rw c.requires.after.0 at c.row-3.ensures.value)
+          (rw (c.requires.after.1, c.requires.after.0) at c.row-4.ensures.value)
+          c.squeeze-else-y-eq0.ensures.read (λ i average. get_or before.result.now i (pos 0))
+          (row_before r.count r.width r.samples.now y c.requires.pair c.row.result.now c.row-2.result.now c.row.ensures.value c.row-2.ensures.value
+          before.result.now before.ensures.value c.if-y-eq0.false);
+    }
