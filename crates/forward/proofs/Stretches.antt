@@ -1,6 +1,6 @@
 -- The entries of a stretch (`average_over` and `residual_over` of specs/Rows.antt) are those of their lines: of any line that has the stretch's samples
 -- at the places of a pair, of a line that is a slice, and of all lines across a row. Assumes nothing.
-use mathlib.Core.Path.{◌≡◌, sym, ◌∙◌}
+use mathlib.Core.Path.{◌≡◌, sym, ap, ◌∙◌}
 use mathlib.Core.Bool.{true, false}
 use mathlib.Core.List.{List}
 use mathlib.Core.Logic.{◌⊎◌, inl, inr}
@@ -122,11 +122,11 @@ module _ (count width : ℕ) (xs : List ℤ) where
         let z : 0 + e ≡ e = omega arith in
         rw z (average_over_lem (line e) count y first second 1 e h (first_at e l) (second_at e l) ∙ average_entry_lem false width count xs y e l))
 
-    pub row_residuals : (third fourth : List ℤ) → third ≡ row (next_first count y) → fourth ≡ row (next_second count (next_first count y)) → Read width 1 third
-        → (before : ℕ → ℤ → ℤ)
+    pub row_residuals : (t f : ℕ) → (t ≡ next_first count y) × (f ≡ next_second count t) → (third fourth : List ℤ) → third ≡ row t → fourth ≡ row f
+        → Read width 1 third → (before : ℕ → ℤ → ℤ)
         → ((e : ℕ) → e < width → before (e * 1) (average_at (line_in false width count xs e) count y) ≡ prev_at (line_in false width count xs e) count y)
         → table (residual_over before first second third fourth 1) 0 width ≡ table (residual_entry false width count xs) (y * width) width
-    row_residuals third fourth p q read before prev =
+    row_residuals t f after third fourth p q read before prev =
         table_cong (residual_over before first second third fourth 1) (residual_entry false width count xs) 0 (y * width) width
         (λ e l.
         let z : 0 + e ≡ e = omega arith in
@@ -137,9 +137,9 @@ module _ (count width : ℕ) (xs : List ℤ) where
         next : (e : ℕ) → e < width → P.average (sample_over third 1 e) (sample_over fourth 1 e) ≡ next_at (line_in false width count xs e) count y
         next e l =
             let j = next_first count y in
-            let s : sample_over third 1 e ≡ line e j = rw p (across j e l) in
-            let t : sample_over fourth 1 e ≡ line e (next_second count j) = rw q (across (next_second count j) e l) in
-            rw (s, t) (sym (next_average_lem (line e) count y h (rw s at (read e l))))
+            let u : sample_over third 1 e ≡ line e j = rw (p ∙ ap row after.0) (across j e l) in
+            let v : sample_over fourth 1 e ≡ line e (next_second count j) = rw (q ∙ ap row (after.1 ∙ ap (next_second count) after.0)) (across (next_second count j) e l) in
+            rw (u, v) (sym (next_average_lem (line e) count y h (rw u at (read e l))))
 
     -- where the pair is not the first
     pub row_before : (before : List ℤ) → before ≡ row (y + y - 1) → (y ≡ 0 → ⊥)

@@ -7,6 +7,7 @@ use native.Mathlib.Omega.{arith}
 use borrow.Author.Rules.{rules}
 use lib.IntN.{ℤ}
 use lib.ListN.{length, length-set}
+use Rattle.line.specs.Uncut.{table}
 use Rattle.line.specs.Forward.{average_count, residual_count, average_at, residual_at}
 use Rattle.arith32.proofs.Whole.{back32}
 use Rattle.forward.specs.Rows.{along, Filled}
@@ -102,31 +103,33 @@ all_pairs c =
           (let e : max (n - 1) (min 1 n) ≡ n = omega (arith, w.if-n-gt1.false) in rw (w.averages-is, w.residuals-is) (rw e at most))
     ]
 
-pub returns-then-n-line-clause-made : goal.returns-then-n-line-clause-made
-returns-then-n-line-clause-made c =
+-- the residuals are those of all pairs
+all_left : (line averages residuals : List ℤ) → length residuals ≡ residual_count (length line) → Pairs line (length line / 2) averages residuals
+    → residuals ≡ table (residual_at (along line) (length line)) 0 (residual_count (length line))
+all_left line averages residuals e p =
+    let s : length line / 2 ≡ residual_count (length line) = omega arith in
+    filled_all (residual_at (along line) (length line)) (residual_count (length line)) residuals e (rw s at p.1)
+
+pub returns-then-n-line : goal.returns-then-n-line
+returns-then-n-line c =
     let line = c.args.line.now in
     let n = length line / 2 in
     let f = average_at (along line) (length line) in
     let t = c.if-n-line.true in
     let s : n + 1 ≡ average_count (length line) = omega (arith, t) in
     let e = back32 (along line (n + n)) (search rules) ∙ sym (average_tail (along line) (length line) n (omega (arith, t))) in
-    filled_all f (average_count (length line)) _ (simp length-set (omega arith))
-    (rw s at (filled_set f n c.if-n-gt1.averages _ (omega (arith, t)) e (all_pairs c.before.before).0))
+    let p = all_pairs c.before.before in
+    record {
+      made = filled_all f (average_count (length line)) _ (simp length-set (omega arith)) (rw s at (filled_set f n c.if-n-gt1.averages _ (omega (arith, t)) e p.0));
+      left = all_left line c.if-n-gt1.averages _ (omega arith) p;
+    }
 
-pub returns-then-n-line-clause-left : goal.returns-then-n-line-clause-left
-returns-then-n-line-clause-left c =
-    let line = c.args.line.now in
-    let s : length line / 2 ≡ residual_count (length line) = omega arith in
-    filled_all (residual_at (along line) (length line)) (residual_count (length line)) _ (omega arith) (rw s at (all_pairs c.before.before).1)
-
-pub returns-else-n-line-clause-made : goal.returns-else-n-line-clause-made
-returns-else-n-line-clause-made c =
+pub returns-else-n-line : goal.returns-else-n-line
+returns-else-n-line c =
     let line = c.args.line.now in
     let s : length line / 2 ≡ average_count (length line) = omega (arith, c.if-n-line.false) in
-    filled_all (average_at (along line) (length line)) (average_count (length line)) _ (omega arith) (rw s at (all_pairs c.before).0)
-
-pub returns-else-n-line-clause-left : goal.returns-else-n-line-clause-left
-returns-else-n-line-clause-left c =
-    let line = c.args.line.now in
-    let s : length line / 2 ≡ residual_count (length line) = omega arith in
-    filled_all (residual_at (along line) (length line)) (residual_count (length line)) _ (omega arith) (rw s at (all_pairs c.before).1)
+    let p = all_pairs c.before in
+    record {
+      made = filled_all (average_at (along line) (length line)) (average_count (length line)) _ (omega arith) (rw s at p.0);
+      left = all_left line c.if-n-gt1.averages _ (omega arith) p;
+    }

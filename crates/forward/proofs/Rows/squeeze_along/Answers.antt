@@ -12,15 +12,13 @@ use Rattle.forward.proofs.Fitted.{averages_all, residuals_all, tails_alone, no_r
 use Rattle.forward.proofs.Stretches.{line_average, line_residual}
 use Rattle.forward.proofs.Rows.squeeze_along.Goals as goal
 
-pub returns-then-self-lt2-clause-made : goal.returns-then-self-lt2-clause-made
-returns-then-self-lt2-clause-made c =
+pub returns-then-self-lt2 : goal.returns-then-self-lt2
+returns-then-self-lt2 c =
     let r = c.args.self.now in
-    c.copy_from_slice.ensures.after ∙ tails_alone r.count r.width r.samples.now c.if-self-lt2.true r.whole
-
-pub returns-then-self-lt2-clause-left : goal.returns-then-self-lt2-clause-left
-returns-then-self-lt2-clause-left c =
-    let r = c.args.self.now in
-    no_residuals r.count r.width r.samples.now c.if-self-lt2.true c.args.residuals.now c.requires.1
+    record {
+      made = c.copy_from_slice.ensures.after ∙ tails_alone r.count r.width r.samples.now c.if-self-lt2.true r.whole;
+      left = no_residuals r.count r.width r.samples.now c.if-self-lt2.true c.args.residuals.now c.requires.1;
+    }
 
 pub slice_bounds-squeeze_line-end : goal.slice_bounds-squeeze_line-end
 slice_bounds-squeeze_line-end c =
@@ -64,14 +62,11 @@ loop-y-preserved c =
           c.loop-y.invariant.left (omega arith);
     }
 
-pub returns-clause-made : goal.returns-clause-made
-returns-clause-made c =
+pub returns : goal.returns
+returns c =
     let r = c.args.self.now in
     let e : c.loop-y.y ≡ r.count = omega (arith, c.loop-y.invariant.in_range) in
-    averages_all true r.count r.width r.samples.now c.loop-y.averages (omega arith) (rw (e, (halves r.width).0) at c.loop-y.invariant.made)
-
-pub returns-clause-left : goal.returns-clause-left
-returns-clause-left c =
-    let r = c.args.self.now in
-    let e : c.loop-y.y ≡ r.count = omega (arith, c.loop-y.invariant.in_range) in
-    residuals_all true r.count r.width r.samples.now c.loop-y.residuals (omega arith) (rw (e, (halves r.width).1) at c.loop-y.invariant.left)
+    record {
+      made = averages_all true r.count r.width r.samples.now c.loop-y.averages (omega arith) (rw (e, (halves r.width).0) at c.loop-y.invariant.made);
+      left = residuals_all true r.count r.width r.samples.now c.loop-y.residuals (omega arith) (rw (e, (halves r.width).1) at c.loop-y.invariant.left);
+    }

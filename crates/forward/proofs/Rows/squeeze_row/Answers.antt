@@ -18,14 +18,11 @@ returns-then-y-eq0 c =
     let r = c.args.self.now in
     let y = c.args.y in
     record {
-      made = c.squeeze.ensures.made ∙ row_averages r.count r.width r.samples.now y c.requires.pair c.row.result.now c.row-2.result.now c.row.ensures.value c.row-2.ensures.value;
+      made = c.squeeze.ensures.made ∙ row_averages r.count r.width r.samples.now y c.requires.pair _ _ c.row.ensures.value c.row-2.ensures.value;
       left =
           c.squeeze.ensures.left
-          ∙ row_residuals r.count r.width r.samples.now y c.requires.pair c.row.result.now c.row-2.result.now c.row.ensures.value c.row-2.ensures.value
-          c.row-3.result.now c.row-4.result.now
-          (rw c.requires.after.0 at c.row-3.ensures.value)
-          (rw (c.requires.after.1, c.requires.after.0) at c.row-4.ensures.value)
-          c.squeeze.ensures.read (λ i average. average)
+          ∙ row_residuals r.count r.width r.samples.now y c.requires.pair _ _ c.row.ensures.value c.row-2.ensures.value
+          _ _ c.requires.after _ _ c.row-3.ensures.value c.row-4.ensures.value c.squeeze.ensures.read (λ i average. average)
           (λ e l. sym (prev_first (line_in false r.width r.count r.samples.now e) r.count y c.if-y-eq0.true));
     }
 
@@ -34,15 +31,12 @@ returns-else-y-eq0 c =
     let r = c.args.self.now in
     let y = c.args.y in
     let before = c.row-samples in
+    let made = c.squeeze-else-y-eq0.ensures in
     record {
-      made = c.squeeze-else-y-eq0.ensures.made ∙ row_averages r.count r.width r.samples.now y c.requires.pair c.row.result.now c.row-2.result.now c.row.ensures.value c.row-2.ensures.value;
+      made = made.made ∙ row_averages r.count r.width r.samples.now y c.requires.pair _ _ c.row.ensures.value c.row-2.ensures.value;
       left =
-          c.squeeze-else-y-eq0.ensures.left
-          ∙ row_residuals r.count r.width r.samples.now y c.requires.pair c.row.result.now c.row-2.result.now c.row.ensures.value c.row-2.ensures.value
-          c.row-3.result.now c.row-4.result.now
-          (rw c.requires.after.0 at c.row-3.ensures.value)
-          (rw (c.requires.after.1, c.requires.after.0) at c.row-4.ensures.value)
-          c.squeeze-else-y-eq0.ensures.read (λ i average. get_or before.result.now i (pos 0))
-          (row_before r.count r.width r.samples.now y c.requires.pair c.row.result.now c.row-2.result.now c.row.ensures.value c.row-2.ensures.value
-          before.result.now before.ensures.value c.if-y-eq0.false);
+          made.left
+          ∙ row_residuals r.count r.width r.samples.now y c.requires.pair _ _ c.row.ensures.value c.row-2.ensures.value
+          _ _ c.requires.after _ _ c.row-3.ensures.value c.row-4.ensures.value made.read (λ i average. get_or before.result.now i (pos 0))
+          (row_before r.count r.width r.samples.now y c.requires.pair _ _ c.row.ensures.value c.row-2.ensures.value _ before.ensures.value c.if-y-eq0.false);
     }
