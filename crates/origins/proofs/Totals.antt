@@ -5,7 +5,6 @@ use mathlib.Core.Bool.{Bool, true, false, cond}
 use mathlib.Core.List.{List, [], ◌∷◌, ◌++◌}
 use Prim.Native.Nat.{ℕ, ◌+◌, ◌<◌, ◌≤◌}
 use native.Mathlib.Omega.{arith}
-use borrow.Author.Tests.{eqb-true}
 use lib.ListN.{length, length-take, length-drop}
 use Rattle.channel.specs.declared.Channel.{Channel}
 use Rattle.channel.specs.Channel.{samples}
@@ -13,21 +12,18 @@ use Rattle.list.specs.declared.Step.{Step}
 use Rattle.list.specs.Tables.{map}
 use Rattle.list.specs.Lists as Lists
 use Rattle.list.specs.Lists.{average, residual, before, range, after, stepped, stepped_origins, total}
-use Rattle.list.specs.Questions.{judge_step, no_channel, channel_of}
+use Rattle.list.specs.Questions.{no_channel, channel_of}
 use Rattle.list.proofs.Channels.{own_length}
 use Rattle.list.proofs.Maps.{map_length}
 use Rattle.list.proofs.Parts.{joined, parts_whole}
-use Rattle.list.proofs.Acceptance.{step_accepted}
 use Rattle.list.proofs.Entries.{stepped_length, origins_stepped}
-use Rattle.list.proofs.Totals.{total_append, parts_total}
+use Rattle.list.proofs.Totals.{total_append, parts_total, joined_total}
 use Rattle.runs.specs.Runs.{is_taken, layout}
+use Rattle.runs.proofs.Shapes.{taken_inside}
 use Rattle.origins.specs.Origins.{origins_from, layout_origins, of_origin}
 use Rattle.origins.proofs.Kept.{map_itself, of_append, of_joined, own_one, of_map}
 
--- an accepted step's range lies inside the list, and there are as many origins as channels after it too
-pub taken_inside : (s : Step) (cs : List Channel) → is_taken s cs ≡ true → s.begin + s.number ≤ length cs
-taken_inside s cs e = (step_accepted s cs (eqb-true (judge_step s cs) 0 e)).inside
-
+-- there are as many origins as channels after an accepted step too
 pub step_same : (s : Step) (cs : List Channel) (os : List ℕ) → length os ≡ length cs → is_taken s cs ≡ true → length (stepped_origins s os) ≡ length (stepped s cs)
 step_same s cs os e t =
     let i = taken_inside s cs t in
@@ -43,10 +39,6 @@ module _ (o : ℕ) (s : Step) (os : List ℕ) (cs : List Channel) (same : length
 
   same_after : length (after s os) ≡ length (after s cs)
   same_after = omega (arith, length-drop (s.begin + s.number) os, length-drop (s.begin + s.number) cs)
-
-  joined_total : (i : Bool) (cs ds : List Channel) → total (joined i cs ds) ≡ total cs + total ds
-  joined_total true cs ds = total_append cs ds
-  joined_total false cs ds = omega (arith, total_append ds cs)
 
   pub step_total : total (of_origin o (stepped_origins s os) (stepped s cs)) ≡ total (of_origin o os cs)
   unfolding Lists.stepped Lists.stepped_origins

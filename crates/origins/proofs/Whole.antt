@@ -12,9 +12,10 @@ use Rattle.list.specs.Questions.{channel_of}
 use Rattle.list.proofs.Channels.{own_length, own_at}
 use Rattle.list.proofs.Entries.{residuals_at, stepped_length}
 use Rattle.runs.specs.Runs.{is_taken, layout}
+use Rattle.runs.proofs.Shapes.{taken_inside}
 use Rattle.origins.specs.Origins.{origins_from, place_after, averaged_by, averages_place, averages_channel}
 use Rattle.origins.specs.Claim.{IsFirst, OriginLaws}
-use Rattle.origins.proofs.Totals.{taken_inside, step_same, origin_total}
+use Rattle.origins.proofs.Totals.{step_same, origin_total}
 use Rattle.origins.proofs.Firsts.{first_step, below_step, average_step, place_inside}
 
 -- ---- what every run has, by the accepted steps alone

@@ -17,8 +17,7 @@ use Rattle.list.specs.Tables.{map}
 use Rattle.line.specs.Uncut.{squeeze, Fitting, line_at, position_at, uncut}
 use Rattle.line.specs.Forward.{average_count, residual_count}
 use Rattle.line.specs.Plain.{AllInDomain}
-use Rattle.line.proofs.Tables.{is_table}
-use Rattle.line.proofs.Places.{place_back, line_room, position_room}
+use Rattle.line.proofs.Places.{is_entries}
 use Rattle.line.proofs.Outputs.{uncut_length}
 use Rattle.line.proofs.Plain.{uncut_standard}
 use Rattle.runs.specs.Parts.{parts}
@@ -47,17 +46,10 @@ module _ (h : Bool) (c : Channel) (avg res : List ℤ) (la : length avg ≡ samp
   channel_standard : channel_back h c avg res ≡ standard_back h c avg res
   unfolding channel_back standard_back
   channel_standard =
-      let q = squeeze h (lines_of h c) (average_count (size_of h c)) (residual_count (size_of h c)) avg res [] [] in
-      is_table _ 0 (lines_of h c * size_of h c) (uncut q) (uncut_length q ∙ rw (all_along (size_of h c)))
-      (λ j l.
-      let z : 0 + j ≡ j = omega arith in
-      let k = line_at h (lines_of h c) (size_of h c) j in
-      let i = position_at h (lines_of h c) (size_of h c) j in
-      let hk = line_room h (lines_of h c) (size_of h c) j l in
-      let hi = position_room h (lines_of h c) (size_of h c) j l in
-      let e = uncut_standard q fitting refl refl (record { avg = da; res = dr; out = dm }) k i hk (rw (all_along (size_of h c)) hi) in
-      rw z
-      (sym (ap (λ (p : ℕ). get_or (uncut q) p (pos 0)) (place_back h (lines_of h c) (size_of h c) j)) ∙ rw (all_along (size_of h c)) at e))
+      let n = size_of h c in
+      let q = squeeze h (lines_of h c) (average_count n) (residual_count n) avg res [] [] in
+      is_entries h (lines_of h c) n _ (uncut q) (uncut_length q ∙ rw (all_along n))
+      (λ k i hk hi. rw (all_along n) at (uncut_standard q fitting refl refl (record { avg = da; res = dr; out = dm }) k i hk (rw (all_along n) hi)))
 
 -- ---- the channels of a range
 range_standard : (h : Bool) (cs : List Channel) (avgs ress : List (List ℤ)) → Shaped (map (average h) cs) avgs → Shaped (map (residual h) cs) ress

@@ -6,7 +6,7 @@ use Prim.Native.Nat.{ℕ, ◌+◌, ◌-◌, ◌/◌, ◌<◌, min, max}
 use native.Mathlib.Omega.{arith}
 use borrow.Author.Rules.{rules}
 use lib.IntN.{ℤ}
-use lib.ListN.{length, length-set}
+use lib.ListN.{length, set, length-set}
 use Rattle.line.specs.Uncut.{table}
 use Rattle.line.specs.Forward.{average_count, residual_count, average_at, residual_at}
 use Rattle.arith32.proofs.Whole.{back32}
@@ -34,22 +34,29 @@ abbrev Pairs : List ℤ → ℕ → List ℤ → List ℤ → Type 0
 Pairs line k averages residuals =
     Filled (average_at (along line) (length line)) k averages × Filled (residual_at (along line) (length line)) k residuals
 
+none_filled : (line averages residuals : List ℤ) → Pairs line 0 averages residuals
+none_filled line averages residuals = (filled_none _ averages, filled_none _ residuals)
+
+-- pair k, stored behind them
+one_more : (line averages residuals : List ℤ) (k : ℕ) (a r : ℤ) → k < length averages → k < length residuals → a ≡ average_at (along line) (length line) k
+    → r ≡ residual_at (along line) (length line) k → Pairs line k averages residuals → Pairs line (k + 1) (set averages k a) (set residuals k r)
+one_more line averages residuals k a r u v ea er p = (filled_set _ k averages a u ea p.0, filled_set _ k residuals r v er p.1)
+
 -- the first pair
 with_first : (c : Joined-n-gt0) → let line = c.args.line.now in Pairs line (min 1 (length line / 2)) c.if-n-gt0.averages c.if-n-gt0.residuals
 with_first c =
     let line = c.args.line.now in
     let n = length line / 2 in
-    let f = average_at (along line) (length line) in
-    let g = residual_at (along line) (length line) in
     elim c.if-n-gt0.branch [
       | then-n-gt0 w ↦
           (let e : min 1 n ≡ 0 + 1 = omega (arith, w.if-n-gt0.true) in
-          rw (w.averages-is, w.residuals-is, e) (
-            filled_set f 0 c.args.averages.now _ (omega (arith, w.if-n-gt0.true)) (back32 w.average_at.result w.average_at.type_inv ∙ w.average_at.ensures) (filled_none f _),
-            filled_set g 0 c.args.residuals.now _ (omega (arith, w.if-n-gt0.true)) (back32 w.residual_at-residual.result w.residual_at-residual.type_inv ∙ w.residual_at-residual.ensures) (filled_none g _),
-          ))
+          let avg = w.average_at in
+          let res = w.residual_at-residual in
+          rw (w.averages-is, w.residuals-is, e)
+          (one_more line _ _ 0 _ _ (omega (arith, w.if-n-gt0.true)) (omega (arith, w.if-n-gt0.true)) (back32 avg.result avg.type_inv ∙ avg.ensures) (back32 res.result res.type_inv ∙ res.ensures)
+          (none_filled line _ _)))
       | else-n-gt0 w ↦
-          (let e : min 1 n ≡ 0 = omega (arith, w.if-n-gt0.false) in rw (w.averages-is, w.residuals-is, e) (filled_none f _, filled_none g _))
+          (let e : min 1 n ≡ 0 = omega (arith, w.if-n-gt0.false) in rw (w.averages-is, w.residuals-is, e) (none_filled line _ _))
     ]
 
 -- the pairs before the last; a line's only pair is its first
@@ -84,8 +91,6 @@ all_pairs : (c : Joined-n-gt1) → let line = c.args.line.now in Pairs line (len
 all_pairs c =
     let line = c.args.line.now in
     let n = length line / 2 in
-    let f = average_at (along line) (length line) in
-    let g = residual_at (along line) (length line) in
     let most = but_last c.before in
     elim c.if-n-gt1.branch [
       | then-n-gt1 w ↦
@@ -94,11 +99,9 @@ all_pairs c =
           let s : n - 1 + 1 ≡ n = omega (arith, l) in
           let avg = w.average_at-then-n-gt1 in
           let res = w.residual_at-residual-then-n-gt1 in
-          let p = rw e at most in
-          rw (w.averages-is, w.residuals-is) (
-            rw s at (filled_set f (n - 1) c.if-n-gt2.averages _ (omega (arith, l)) (back32 avg.result avg.type_inv ∙ avg.ensures) p.0),
-            rw s at (filled_set g (n - 1) c.if-n-gt2.residuals _ (omega (arith, l)) (back32 res.result res.type_inv ∙ res.ensures) p.1),
-          ))
+          rw (w.averages-is, w.residuals-is)
+          (rw s at
+          (one_more line _ _ (n - 1) _ _ (omega (arith, l)) (omega (arith, l)) (back32 avg.result avg.type_inv ∙ avg.ensures) (back32 res.result res.type_inv ∙ res.ensures) (rw e at most))))
       | else-n-gt1 w ↦
           (let e : max (n - 1) (min 1 n) ≡ n = omega (arith, w.if-n-gt1.false) in rw (w.averages-is, w.residuals-is) (rw e at most))
     ]
