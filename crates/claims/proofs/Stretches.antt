@@ -12,7 +12,8 @@ use Rattle.pair.specs.Pair as P
 use Rattle.line.specs.Uncut.{place}
 use Rattle.line.specs.Forward.{average_at, next_at, residual_at, line_in}
 use Rattle.forward.specs.Rows.{sample_over, average_over, residual_over}
-use Rattle.forward.proofs.Entries.{average_pair, residual_pair, prev_first, prev_later}
+use Rattle.forward.proofs.Entries.{residual_pair, prev_first, prev_later}
+use Rattle.forward.proofs.Stretches as Whole
 
 pub sample_over_lem : (xs : List ℤ) (at step x j : ℕ) → at + x * step ≡ j → sample_over (drop at xs) step x ≡ get_or xs j (pos 0)
 sample_over_lem xs at step x j e = get_or-drop at xs (x * step) (pos 0) ∙ rw e
@@ -21,9 +22,8 @@ sample_over_lem xs at step x j e = get_or-drop at xs (x * step) (pos 0) ∙ rw e
 module _ (d : Bool) (lines size : ℕ) (xs : List ℤ) (k i step x : ℕ) where
   pub average_over_lem : (a b : ℕ) → a + x * step ≡ place d lines size k (i + i) → b + x * step ≡ place d lines size k (i + i + 1) → i + i + 1 < size
       → average_over (drop a xs) (drop b xs) step x ≡ average_at (line_in d lines size xs k) size i
-  unfolding average_over
   average_over_lem a b ea eb h =
-      rw (sample_over_lem xs a step x _ ea, sample_over_lem xs b step x _ eb) (sym (average_pair (line_in d lines size xs k) size i h))
+      Whole.average_over_lem (line_in d lines size xs k) size i (drop a xs) (drop b xs) step x h (sample_over_lem xs a step x _ ea) (sample_over_lem xs b step x _ eb)
 
   -- with positions j and l of the samples that stand for the pair after it
   pub residual_over_lem : (o a b p q j l : ℕ) → o + x * step ≡ place d lines size k (i + i - 1) → a + x * step ≡ place d lines size k (i + i)
@@ -45,10 +45,7 @@ module _ (d : Bool) (lines size : ℕ) (xs : List ℤ) (k i step x : ℕ) where
       → p + x * step ≡ place d lines size k j → q + x * step ≡ place d lines size k l
       → i ≡ 0 → i + i + 1 < size → next_at (line_in d lines size xs k) size i ≡ P.average (line_in d lines size xs k j) (line_in d lines size xs k l)
       → residual_over (λ e average. average) (drop a xs) (drop b xs) (drop p xs) (drop q xs) step x ≡ residual_at (line_in d lines size xs k) size i
-  unfolding residual_over P.residual
   first_over_lem a b p q j l ea eb ep eq z h next =
-      let line = line_in d lines size xs k in
-      let prev = prev_first line size i z ∙ average_pair line size i h in
-      let own = average_over_lem a b ea eb h in
-      rw (own, sample_over_lem xs a step x _ ea, sample_over_lem xs b step x _ eb, sample_over_lem xs p step x _ ep, sample_over_lem xs q step x _ eq)
-      (sym (residual_pair line size i ∙ rw (next, prev_first line size i z)))
+      Whole.residual_over_lem (line_in d lines size xs k) size i (drop a xs) (drop b xs) step x h (sample_over_lem xs a step x _ ea) (sample_over_lem xs b step x _ eb)
+      (λ e average. average) (drop p xs) (drop q xs) (rw (sample_over_lem xs p step x _ ep, sample_over_lem xs q step x _ eq) (sym next))
+      (sym (prev_first (line_in d lines size xs k) size i z))

@@ -6,10 +6,10 @@ use Prim.Native.Nat.{ℕ, ◌+◌, ◌*◌, ◌<◌}
 use native.Mathlib.Omega.{arith}
 use lib.IntN.{ℤ, pos}
 use lib.ListN.{length, get_or}
-use Rattle.line.specs.Uncut.{place, line_at, position_at}
+use Rattle.line.specs.Uncut.{place}
 use Rattle.cuts.specs.Cut.{part, line_across}
 use Rattle.line.proofs.Tables.{table_length, table_at}
-use Rattle.line.proofs.Places.{line_back, position_back, place_room_lem}
+use Rattle.line.proofs.Places.{entry_at}
 
 -- ---- a part
 module _ (horizontal : Bool) (whole size start lines from n : ℕ) (xs : List ℤ) where
@@ -21,12 +21,7 @@ module _ (horizontal : Bool) (whole size start lines from n : ℕ) (xs : List �
       → get_or (part horizontal whole size start lines from n xs) (place horizontal lines n k i) (pos 0)
       ≡ get_or xs (place horizontal whole size (start + k) (from + i)) (pos 0)
   unfolding part
-  part_at k i hk hi =
-      let j = place horizontal lines n k i in
-      let z : 0 + j ≡ j = omega arith in
-      table_at (λ j. get_or xs (place horizontal whole size (start + line_at horizontal lines n j) (from + position_at horizontal lines n j)) (pos 0)) 0
-      (lines * n) j (place_room_lem horizontal lines n k i hk hi)
-      ∙ rw (z, line_back horizontal lines n k i hk hi, position_back horizontal lines n k i hk hi)
+  part_at = entry_at horizontal lines n (λ k i. get_or xs (place horizontal whole size (start + k) (from + i)) (pos 0))
 
 -- ---- a line across
 module _ (horizontal : Bool) (whole size start lines i : ℕ) (xs : List ℤ) where

@@ -11,11 +11,10 @@ use borrow.Author.Tests.{eq-eqb, ne_eqb}
 use lib.IntN.{ℤ}
 use lib.ListN.{length, take, drop, length-take, length-drop}
 use Rattle.line.specs.Line.{Line, next_average, before, sample}
-use Rattle.line.specs.Uncut.{Squeeze, squeeze, Fitting, line_at, position_at, size, outer, line_of, output_at, uncut}
+use Rattle.line.specs.Uncut.{Squeeze, squeeze, Fitting, size, outer, line_of, output_at, uncut}
 use Rattle.cuts.specs.Cut.{Strip, StripFits, is_last, tile_averages, tile_residuals, tile_size, part, line_across, tile_avg, tile_res, tile_out, tile_next, tile_prev, tile_call}
 use Rattle.tile.specs.Call.{answer, after}
-use Rattle.line.proofs.Tables.{table_cong}
-use Rattle.line.proofs.Places.{line_room, position_room}
+use Rattle.line.proofs.Places.{entries_cong}
 use Rattle.std.proofs.lemmas.Bool.{cases_lt}
 use Rattle.line.proofs.Lines.{Fits, Stretch, stretch_sample, sample_second, before_next, before_first, next_inside, next_last}
 use Rattle.line.proofs.Outputs.{outer_at, outer_part, uncut_at, line_averages, line_residuals, line_avg, line_res, line_next, line_prev}
@@ -256,17 +255,11 @@ module _ (s : Squeeze) (fs : Fitting s) (p : Strip) (fp : StripFits s p) where
   pub tile_uncut : (slices : ℕ → List ℤ) (t : ℕ) → t < p.tiles → Left slices t → uncut (tile_squeeze slices t) ≡ tile_out s p t
   unfolding uncut output_at part
   tile_uncut slices t ht w =
-      let h = s.horizontal in
-      let n = tile_size s p t in
       let sh = shape t ht in
-      table_cong _ _ 0 0 (p.lines * n)
-      (λ j l.
-      let z : 0 + j ≡ j = omega arith in
-      let lk = line_room h p.lines n j l in
-      let lj = position_room h p.lines n j l in
-      rw z
-      (tile_sample (line_at h p.lines n j) lk slices t (position_at h p.lines n j) ht w lj
-      ∙ sym (uncut_at s (p.start + line_at h p.lines n j) (p.from t + p.from t + position_at h p.lines n j) (omega (arith, fp.inside)) (omega (arith, sh.avgs, sh.ress)))))
+      entries_cong s.horizontal p.lines (tile_size s p t) _ _
+      (λ k i hk hi.
+      tile_sample k hk slices t i ht w hi
+      ∙ sym (uncut_at s (p.start + k) (p.from t + p.from t + i) (omega (arith, fp.inside)) (omega (arith, sh.avgs, sh.ress))))
 
   -- a strip's part of an outer line is absent or has the strip's lines
   outer_length : (xs : List ℤ) → (length xs ≡ 0) ⊎ (length xs ≡ s.lines)

@@ -34,11 +34,11 @@ module _ (step : ℕ) (xs : List ℤ) where
 -- ---- pair i of a line x
 module _ (x : ℕ → ℤ) (size i : ℕ) (first second : List ℤ) (step e : ℕ) (h : i + i + 1 < size)
     (a : sample_over first step e ≡ x (i + i)) (b : sample_over second step e ≡ x (i + i + 1)) where
-  average_over_lem : average_over first second step e ≡ average_at x size i
+  pub average_over_lem : average_over first second step e ≡ average_at x size i
   unfolding average_over
   average_over_lem = rw (a, b) (sym (average_pair x size i h))
 
-  residual_over_lem : (before : ℕ → ℤ → ℤ) (third fourth : List ℤ) → P.average (sample_over third step e) (sample_over fourth step e) ≡ next_at x size i
+  pub residual_over_lem : (before : ℕ → ℤ → ℤ) (third fourth : List ℤ) → P.average (sample_over third step e) (sample_over fourth step e) ≡ next_at x size i
       → before (e * step) (average_at x size i) ≡ prev_at x size i
       → residual_over before first second third fourth step e ≡ residual_at x size i
   unfolding residual_over P.residual

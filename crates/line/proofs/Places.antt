@@ -10,7 +10,7 @@ use native.Mathlib.Nat.{div-add-mod', mod-lt, mul-le-mul_right, mul_comm, add-mu
 use lib.IntN.{ℤ, pos}
 use lib.ListN.{length, get_or}
 use Rattle.line.specs.Uncut.{place, line_at, position_at, table}
-use Rattle.line.proofs.Tables.{table_at, is_table}
+use Rattle.line.proofs.Tables.{table_length, table_at, is_table}
 
 -- ---- rows of n: row k, place i in it
 pub row_of : (k n i : ℕ) → i < n → (k * n + i) / n ≡ k
@@ -98,3 +98,7 @@ module _ (horizontal : Bool) (lines size : ℕ) where
         (λ j l.
         let z : 0 + j ≡ j = omega arith in
         rw z (ap (λ (q : ℕ). get_or xs q (pos 0)) (sym (place_back j)) ∙ h (line_at horizontal lines size j) (position_at horizontal lines size j) (line_room j l) (position_room j l)))
+
+  -- two whose entries agree
+  pub entries_cong : (f g : ℕ → ℕ → ℤ) → ((k i : ℕ) → k < lines → i < size → f k i ≡ g k i) → entries f ≡ entries g
+  entries_cong f g h = is_entries g (entries f) (table_length _ 0 (lines * size)) (λ k i hk hi. entry_at f k i hk hi ∙ h k i hk hi)
