@@ -77,20 +77,19 @@ module _ (count width : ℕ) (xs : List ℤ) where
   abbrev pub row : ℕ → List ℤ
   row j = take width (drop (j * width) xs)
 
+  row_at : (j e : ℕ) → e < width → get_or (row j) e (pos 0) ≡ get_or xs (j * width + e) (pos 0)
+  row_at j e l = get_or-take width (drop (j * width) xs) e (pos 0) l ∙ get_or-drop (j * width) xs e (pos 0)
+
   -- line y of a horizontal squeeze
   pub line_average : (y x : ℕ) → y < count → x < average_count width
       → average_at (along (row y)) width x ≡ average_entry true count width xs (y * average_count width + x)
   line_average y x h l =
-      average_cong (along (row y)) (line_in true count width xs y) width
-      (λ i p. get_or-take width (drop (y * width) xs) i (pos 0) p ∙ get_or-drop (y * width) xs i (pos 0)) x l
-      ∙ average_entry_lem true count width xs y x l
+      average_cong (along (row y)) (line_in true count width xs y) width (row_at y) x l ∙ average_entry_lem true count width xs y x l
 
   pub line_residual : (y x : ℕ) → y < count → x < residual_count width
       → residual_at (along (row y)) width x ≡ residual_entry true count width xs (y * residual_count width + x)
   line_residual y x h l =
-      residual_cong (along (row y)) (line_in true count width xs y) width
-      (λ i p. get_or-take width (drop (y * width) xs) i (pos 0) p ∙ get_or-drop (y * width) xs i (pos 0)) x l
-      ∙ residual_entry_lem true count width xs y x l
+      residual_cong (along (row y)) (line_in true count width xs y) width (row_at y) x l ∙ residual_entry_lem true count width xs y x l
 
   -- line e of a vertical one, and its sample j
   abbrev line : ℕ → ℕ → ℤ
@@ -99,12 +98,12 @@ module _ (count width : ℕ) (xs : List ℤ) where
   across : (j e : ℕ) → e < width → sample_over (row j) 1 e ≡ line_in false width count xs e j
   across j e l =
       let s : e * 1 ≡ e = omega arith in
-      rw s (get_or-take width (drop (j * width) xs) e (pos 0) l ∙ get_or-drop (j * width) xs e (pos 0))
+      rw s (row_at j e l)
 
   -- the row of tails, behind n pairs
   pub row_tail : (n e : ℕ) → count ≡ n + n + 1 → e < width → get_or (row (n + n)) e (pos 0) ≡ average_entry false width count xs (n * width + e)
   row_tail n e s l =
-      get_or-take width (drop ((n + n) * width) xs) e (pos 0) l ∙ get_or-drop ((n + n) * width) xs e (pos 0)
+      row_at (n + n) e l
       ∙ sym (average_tail (line_in false width count xs e) count n (omega arith)) ∙ average_entry_lem false width count xs n e l
 
   -- ---- pair y of all lines, in slices of its samples and of what stands for the pair after it

@@ -12,10 +12,9 @@ use lib.IntN.{ℤ, pos}
 use lib.ListN.{length, get_or}
 use Rattle.pair.specs.Pair.{first, second}
 use Rattle.line.specs.Line.{or_else, next_average, before, sample}
-use Rattle.line.specs.Uncut.{Squeeze, Fitting, line_at, position_at, outer, line_of, size, output_at, uncut}
+use Rattle.line.specs.Uncut.{Squeeze, Fitting, position_at, outer, line_of, size, output_at, uncut}
 use Rattle.line.specs.Pairs.{Lines, inner, avg_at, res_at, at, output_before, Ordinary, Ended}
-use Rattle.line.proofs.Tables.{is_table}
-use Rattle.line.proofs.Places.{line_room, position_room, place_back, position_back}
+use Rattle.line.proofs.Places.{position_back, is_entries}
 use Rattle.std.proofs.lemmas.Bool.{cases_lt}
 use Rattle.line.proofs.Lines.{Half, even, odd, half, sample_first, sample_second, sample_tail, before_next, next_inside}
 
@@ -29,6 +28,14 @@ apart t k l i j hk hl hi hj d e =
     (sym (position_back t.horizontal t.lines n k i hk hi)
     ∙ ap (λ (q : ℕ). position_at t.horizontal t.lines n q) e
     ∙ position_back t.horizontal t.lines n l j hl hj)
+
+-- a position before pair b is none of the pairs from b on
+earlier : (t : Lines) (k j b c : ℕ) → k < t.lines → j < b + b → t.residuals ≤ t.averages → b + c ≤ t.residuals
+    → (l n : ℕ) → l < t.lines → n < c → (at t k j ≡ at t l (b + n + (b + n)) → ⊥) × (at t k j ≡ at t l (b + n + (b + n) + 1) → ⊥)
+earlier t k j b c hk hj low room l n hl hn = (
+  apart t k l j (b + n + (b + n)) hk hl (omega arith) (omega arith) (λ e. omega arith),
+  apart t k l j (b + n + (b + n) + 1) hk hl (omega arith) (omega arith) (λ e. omega arith),
+)
 
 -- ---- one pair
 -- pair i of every line, made with the next averages and the outputs before it that are given, and nothing else changed
@@ -86,39 +93,28 @@ module _ {t : Lines} where
             ∙ o.kept q (λ k n hk hn. off k n hk (omega arith));
       }
     where
+      -- the output before a later pair, counted from the first
+      prior_of : (k n : ℕ) → k < t.lines → c ≤ n
+          → output_before (avg_at t k) (res_at t k) (mid k) (a + c) (n - c) ≡ output_before (avg_at t k) (res_at t k) (prior k) a n
+      prior_of k n hk g =
+          let e : c + (n - c) ≡ n = omega arith in
+          rw e at (before_join (avg_at t k) (res_at t k) (prior k) (mid k) a c (n - c) (o.handed k hk))
+
       first_at : (k n : ℕ) → k < t.lines → n < c + d → (n < c) ⊎ (c ≤ n)
           → get_or new (at t k (a + n + (a + n))) (pos 0)
           ≡ first (avg_at t k (a + n)) (res_at t k (a + n)) (avg_at t k (a + n + 1)) (output_before (avg_at t k) (res_at t k) (prior k) a n)
-      first_at k n hk hn (inl l) =
-          p.kept (at t k (a + n + (a + n)))
-          (λ j x hj hx. (
-            apart t k j (a + n + (a + n)) (a + c + x + (a + c + x)) hk hj (omega arith) (omega arith) (λ e. omega arith),
-            apart t k j (a + n + (a + n)) (a + c + x + (a + c + x) + 1) hk hj (omega arith) (omega arith) (λ e. omega arith),
-          ))
-          ∙ o.firsts k n hk l
+      first_at k n hk hn (inl l) = p.kept _ (earlier t k (a + n + (a + n)) (a + c) d hk (omega arith) low room) ∙ o.firsts k n hk l
       first_at k n hk hn (inr g) =
-          let e : n ≡ c + (n - c) = omega arith in
           let f : a + c + (n - c) ≡ a + n = omega arith in
-          rw f at (p.firsts k (n - c) hk (omega arith))
-          ∙ ap (first (avg_at t k (a + n)) (res_at t k (a + n)) (avg_at t k (a + n + 1)))
-          (before_join (avg_at t k) (res_at t k) (prior k) (mid k) a c (n - c) (o.handed k hk) ∙ ap (output_before (avg_at t k) (res_at t k) (prior k) a) (sym e))
+          rw f at (p.firsts k (n - c) hk (omega arith)) ∙ rw (prior_of k n hk g)
 
       second_at_lem : (k n : ℕ) → k < t.lines → n < c + d → (n < c) ⊎ (c ≤ n)
           → get_or new (at t k (a + n + (a + n) + 1)) (pos 0)
           ≡ second (avg_at t k (a + n)) (res_at t k (a + n)) (avg_at t k (a + n + 1)) (output_before (avg_at t k) (res_at t k) (prior k) a n)
-      second_at_lem k n hk hn (inl l) =
-          p.kept (at t k (a + n + (a + n) + 1))
-          (λ j x hj hx. (
-            apart t k j (a + n + (a + n) + 1) (a + c + x + (a + c + x)) hk hj (omega arith) (omega arith) (λ e. omega arith),
-            apart t k j (a + n + (a + n) + 1) (a + c + x + (a + c + x) + 1) hk hj (omega arith) (omega arith) (λ e. omega arith),
-          ))
-          ∙ o.seconds k n hk l
+      second_at_lem k n hk hn (inl l) = p.kept _ (earlier t k (a + n + (a + n) + 1) (a + c) d hk (omega arith) low room) ∙ o.seconds k n hk l
       second_at_lem k n hk hn (inr g) =
-          let e : n ≡ c + (n - c) = omega arith in
           let f : a + c + (n - c) ≡ a + n = omega arith in
-          rw f at (p.seconds k (n - c) hk (omega arith))
-          ∙ ap (second (avg_at t k (a + n)) (res_at t k (a + n)) (avg_at t k (a + n + 1)))
-          (before_join (avg_at t k) (res_at t k) (prior k) (mid k) a c (n - c) (o.handed k hk) ∙ ap (output_before (avg_at t k) (res_at t k) (prior k) a) (sym e))
+          rw f at (p.seconds k (n - c) hk (omega arith)) ∙ rw (prior_of k n hk g)
 
 -- ---- to the line rule
 -- the positions before j are written in every line
@@ -147,55 +143,33 @@ module _ {s : Squeeze} (fitting : Fitting s) where
       → Upto s new (a + count + (a + count)) × ((k : ℕ) → k < s.lines → after k ≡ before (line_of s k) (a + count))
   unfolding line_of
   after_ordinary {prior} {after} {old} {new} {a} {count} room sight eb o u = (
-    record { long = o.long ∙ u.long; done = λ k i hk hi. by_half k i hk hi (half i) },
+    record { long = o.long ∙ u.long; done = λ k i hk hi. by_place k i hk hi (cases_lt i (a + a)) (half i) },
     λ k hk. o.handed k hk ∙ same_before s k (prior k) a count sight (eb k hk),
   )
     where
-      kept : (k i : ℕ) → k < s.lines → i < a + a → get_or new (at (inner s) k i) (pos 0) ≡ sample (line_of s k) i
-      kept k i hk l =
-          let low = fitting.low in
-          o.kept (at (inner s) k i)
-          (λ j x hj hx. (
-            apart (inner s) k j i (a + x + (a + x)) hk hj (omega arith) (omega arith) (λ e. omega arith),
-            apart (inner s) k j i (a + x + (a + x) + 1) hk hj (omega arith) (omega arith) (λ e. omega arith),
-          ))
-          ∙ u.done k i hk l
-
-      by_half : (k i : ℕ) → k < s.lines → i < a + count + (a + count) → Half i → get_or new (at (inner s) k i) (pos 0) ≡ sample (line_of s k) i
-      by_half k i hk hi (even p e) = by_order (cases_lt i (a + a))
-        where
-          by_order : (i < a + a) ⊎ (a + a ≤ i) → get_or new (at (inner s) k i) (pos 0) ≡ sample (line_of s k) i
-          by_order (inl l) = kept k i hk l
-          by_order (inr g) =
-              let n = p - a in
-              let f : i ≡ a + n + (a + n) = omega arith in
-              rw f
-              (o.firsts k n hk (omega arith)
-              ∙ rw (same_before s k (prior k) a n (omega arith) (eb k hk))
-              (sym (sample_first (line_of s k) (a + n) (omega arith) ∙ rw (next_inside (line_of s k) (a + n) (omega arith)) refl)))
-      by_half k i hk hi (odd p e) = by_order (cases_lt i (a + a))
-        where
-          by_order : (i < a + a) ⊎ (a + a ≤ i) → get_or new (at (inner s) k i) (pos 0) ≡ sample (line_of s k) i
-          by_order (inl l) = kept k i hk l
-          by_order (inr g) =
-              let n = p - a in
-              let f : i ≡ a + n + (a + n) + 1 = omega arith in
-              rw f
-              (o.seconds k n hk (omega arith)
-              ∙ rw (same_before s k (prior k) a n (omega arith) (eb k hk))
-              (sym (sample_second (line_of s k) (a + n) (omega arith) ∙ rw (next_inside (line_of s k) (a + n) (omega arith)) refl)))
+      by_place : (k i : ℕ) → k < s.lines → i < a + count + (a + count) → (i < a + a) ⊎ (a + a ≤ i) → Half i
+          → get_or new (at (inner s) k i) (pos 0) ≡ sample (line_of s k) i
+      by_place k i hk hi (inl l) _ = o.kept _ (earlier (inner s) k i a count hk l fitting.low room) ∙ u.done k i hk l
+      by_place k i hk hi (inr g) (even p e) =
+          let n = p - a in
+          let f : i ≡ a + n + (a + n) = omega arith in
+          rw f
+          (o.firsts k n hk (omega arith)
+          ∙ rw (same_before s k (prior k) a n (omega arith) (eb k hk))
+          (sym (sample_first (line_of s k) (a + n) (omega arith) ∙ rw (next_inside (line_of s k) (a + n) (omega arith)) refl)))
+      by_place k i hk hi (inr g) (odd p e) =
+          let n = p - a in
+          let f : i ≡ a + n + (a + n) + 1 = omega arith in
+          rw f
+          (o.seconds k n hk (omega arith)
+          ∙ rw (same_before s k (prior k) a n (omega arith) (eb k hk))
+          (sym (sample_second (line_of s k) (a + n) (omega arith) ∙ rw (next_inside (line_of s k) (a + n) (omega arith)) refl)))
 
 -- every position is written
 pub all : (s : Squeeze) (out : List ℤ) (j : ℕ) → size s ≤ j → Upto s out j → out ≡ uncut s
 unfolding uncut output_at
 all s out j h u =
-    is_table (output_at s) 0 (s.lines * size s) out u.long
-    (λ q l.
-    let z : 0 + q ≡ q = omega arith in
-    let hk = line_room s.horizontal s.lines (size s) q l in
-    let hi = position_room s.horizontal s.lines (size s) q l in
-    let b = place_back s.horizontal s.lines (size s) q in
-    rw z (rw b at (u.done (line_at s.horizontal s.lines (size s) q) (position_at s.horizontal s.lines (size s) q) hk (omega arith))))
+    is_entries s.horizontal s.lines (size s) (λ k i. sample (line_of s k) i) out u.long (λ k i hk hi. u.done k i hk (omega arith))
 
 -- the next averages of a pair by other names
 pub following_same : {t : Lines} {following other prior : ℕ → ℤ} {old new : List ℤ} {i : ℕ} → ((k : ℕ) → k < t.lines → following k ≡ other k)

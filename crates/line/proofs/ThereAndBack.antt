@@ -14,7 +14,7 @@ use Rattle.line.specs.Line.{sample}
 use Rattle.line.specs.Uncut.{Squeeze, squeeze, place, size, line_of, output_at, uncut}
 use Rattle.line.specs.Forward.{average_count, residual_count, average_at, next_at, prev_at, residual_at, line_in, averages_of, residuals_of, Samples}
 use Rattle.line.proofs.Tables.{table_length}
-use Rattle.line.proofs.Places.{place_room_lem, entry_at, is_entries}
+use Rattle.line.proofs.Places.{place_room_lem, entries, entry_at, is_entries}
 use Rattle.std.proofs.lemmas.Bool.{cases_lt}
 use Rattle.line.proofs.Lines.{Fits, Same, same_sample}
 use Rattle.line.proofs.Outputs.{outer_none, uncut_at, line_averages, line_residuals, line_avg, line_res, line_next, line_prev}
@@ -143,22 +143,27 @@ module _ (h : Bool) (lines n : ℕ) (avg res : List ℤ) (la : length avg ≡ li
       let p = place_room_lem h lines (residual_count n) k i hk (omega arith) in
       rw (line_res given k i) (fr (place h lines (residual_count n) k i) (omega arith))
 
+  -- what is made of each line of the output is what was given
+  back_by : (m : ℕ) (made : (ℕ → ℤ) → ℕ → ℤ) (xs : List ℤ) → length xs ≡ lines * m
+      → ((x y : ℕ → ℤ) → ((i : ℕ) → i < n → x i ≡ y i) → (i : ℕ) → i < m → made x i ≡ made y i)
+      → ((k i : ℕ) → k < lines → i < m → made (sample (line_of given k)) i ≡ get_or xs (place h lines m k i) (pos 0))
+      → entries h lines m (λ k i. made (line_in h lines n (uncut given) k) i) ≡ xs
+  back_by m made xs long cong again =
+      sym (is_entries h lines m _ xs long
+      (λ k i hk hi. sym (cong (line_in h lines n (uncut given) k) (sample (line_of given k)) (λ j hj. line_of_uncut k j hk hj) i hi ∙ again k i hk hi)))
+
   pub averages_back : averages_of h lines n (uncut given) ≡ avg
   unfolding averages_of
   averages_back =
-      sym (is_entries h lines (average_count n) (λ k i. average_at (line_in h lines n (uncut given) k) n i) avg la
+      back_by (average_count n) (λ x i. average_at x n i) avg la (λ x y. average_cong x y n)
       (λ k i hk hi.
       let a = line_averages given k in
-      sym (average_cong (line_in h lines n (uncut given) k) (sample (line_of given k)) n (λ i' hi'. line_of_uncut k i' hk hi') i hi
-      ∙ averages_again (line_of given k) n (line_averages given k) (line_residuals given k) (no_next k) (no_prev k) (avg_sample k hk) (res_sample k hk) i (omega arith)
-      ∙ line_avg given k i)))
+      averages_again (line_of given k) n a (line_residuals given k) (no_next k) (no_prev k) (avg_sample k hk) (res_sample k hk) i (omega arith) ∙ line_avg given k i)
 
   pub residuals_back : residuals_of h lines n (uncut given) ≡ res
   unfolding residuals_of
   residuals_back =
-      sym (is_entries h lines (residual_count n) (λ k i. residual_at (line_in h lines n (uncut given) k) n i) res lr
+      back_by (residual_count n) (λ x i. residual_at x n i) res lr (λ x y. residual_cong x y n)
       (λ k i hk hi.
       let r = line_residuals given k in
-      sym (residual_cong (line_in h lines n (uncut given) k) (sample (line_of given k)) n (λ i' hi'. line_of_uncut k i' hk hi') i hi
-      ∙ residuals_again (line_of given k) n (line_averages given k) (line_residuals given k) (no_next k) (no_prev k) (avg_sample k hk) (res_sample k hk) i (omega arith)
-      ∙ line_res given k i)))
+      residuals_again (line_of given k) n (line_averages given k) r (no_next k) (no_prev k) (avg_sample k hk) (res_sample k hk) i (omega arith) ∙ line_res given k i)
