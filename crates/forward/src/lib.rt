@@ -222,6 +222,7 @@ fn next_first(size: usize, i: usize) -> usize
 
 impl Rows<'_> {
     // All lines; those of one sample are tails alone.
+    #[tactic(auto, using(crate::proofs::Entries::row_room, crate::proofs::Entries::halves, crate::proofs::Fitted::tails_alone, crate::proofs::Fitted::no_residuals))]
     fn squeeze_along(&self, averages: &mut [i32], residuals: &mut [i32])
         requires { (length averages.old ≡ self.now.count * average_count self.now.width) × (length residuals.old ≡ self.now.count * residual_count self.now.width) }
         ensures made { averages.new ≡ averages_of true self.now.count self.now.width self.now.samples.now }

@@ -12,26 +12,6 @@ use Rattle.forward.proofs.Fitted.{averages_all, residuals_all, tails_alone, no_r
 use Rattle.forward.proofs.Stretches.{line_average, line_residual}
 use Rattle.forward.proofs.Rows.squeeze_along.Goals as goal
 
-pub returns-then-self-lt2 : goal.returns-then-self-lt2
-returns-then-self-lt2 c =
-    let r = c.args.self.now in
-    record {
-      made = c.copy_from_slice.ensures.after ∙ tails_alone r.count r.width r.samples.now c.if-self-lt2.true r.whole;
-      left = no_residuals r.count r.width r.samples.now c.if-self-lt2.true c.args.residuals.now c.requires.1;
-    }
-
-pub slice_bounds-squeeze_line-end : goal.slice_bounds-squeeze_line-end
-slice_bounds-squeeze_line-end c =
-    let r = c.args.self.now in
-    let e : r.count * (r.width - r.width / 2) ≡ r.count * average_count r.width = rw (halves r.width).0 in
-    omega (arith, row_room c.loop-y.y r.count (r.width - r.width / 2) c.loop-y-test.true)
-
-pub slice_bounds-squeeze_line-end-in-loop-y : goal.slice_bounds-squeeze_line-end-in-loop-y
-slice_bounds-squeeze_line-end-in-loop-y c =
-    let r = c.args.self.now in
-    let e : r.count * (r.width / 2) ≡ r.count * residual_count r.width = rw (halves r.width).1 in
-    omega (arith, row_room c.loop-y.y r.count (r.width / 2) c.loop-y-test.true)
-
 pub loop-y-preserved : goal.loop-y-preserved
 loop-y-preserved c =
     let r = c.args.self.now in
