@@ -93,6 +93,7 @@ struct Stretch<'a, const STEP: usize> {
 impl<const STEP: usize> Stretch<'_, STEP> {
     // Only what was read is known to be 32-bit samples, hence the last fact of the
     // contract, which a caller needs that has a sample twice stand for a pair.
+    #[tactic(auto, using(crate::proofs::Filled::filled_all))]
     fn squeeze<B: Before + Drop>(&self, before: B, averages: &mut [i32], residuals: &mut [i32])
         requires { ((x : ℕ) → x < self.now.count → B.has before (x * STEP)) × (length averages.old ≡ self.now.count) × (length residuals.old ≡ self.now.count) }
         ensures made { averages.new ≡ table (average_over self.now.first.now self.now.second.now STEP) 0 self.now.count }
@@ -222,7 +223,7 @@ fn next_first(size: usize, i: usize) -> usize
 
 impl Rows<'_> {
     // All lines; those of one sample are tails alone.
-    #[tactic(auto, using(crate::proofs::Entries::row_room, crate::proofs::Entries::halves, crate::proofs::Fitted::tails_alone, crate::proofs::Fitted::no_residuals))]
+    #[tactic(auto, using(crate::proofs::Entries::row_room, crate::proofs::Entries::halves, crate::proofs::Fitted::tails_alone, crate::proofs::Fitted::no_residuals, crate::proofs::Fitted::averages_all, crate::proofs::Fitted::residuals_all))]
     fn squeeze_along(&self, averages: &mut [i32], residuals: &mut [i32])
         requires { (length averages.old ≡ self.now.count * average_count self.now.width) × (length residuals.old ≡ self.now.count * residual_count self.now.width) }
         ensures made { averages.new ≡ averages_of true self.now.count self.now.width self.now.samples.now }
@@ -245,6 +246,7 @@ impl Rows<'_> {
 
     // Pair y of all lines of a vertical squeeze, with the positions of what stands for
     // the pair after it.
+    #[tactic(auto, using(crate::proofs::Nexts::first_inside))]
     #[inline(always)]
     fn squeeze_row(
         &self,

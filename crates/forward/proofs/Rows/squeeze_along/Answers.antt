@@ -42,11 +42,3 @@ loop-y-preserved c =
           c.loop-y.invariant.left (omega arith);
     }
 
-pub returns : goal.returns
-returns c =
-    let r = c.args.self.now in
-    let e : c.loop-y.y ≡ r.count = omega (arith, c.loop-y.invariant.in_range) in
-    record {
-      made = averages_all true r.count r.width r.samples.now c.loop-y.averages (omega arith) (rw (e, (halves r.width).0) at c.loop-y.invariant.made);
-      left = residuals_all true r.count r.width r.samples.now c.loop-y.residuals (omega arith) (rw (e, (halves r.width).1) at c.loop-y.invariant.left);
-    }

@@ -10,9 +10,6 @@ use Rattle.forward.proofs.Nexts.{first_inside}
 use Rattle.forward.proofs.Stretches.{row_averages, row_residuals, row_before}
 use Rattle.forward.proofs.Rows.squeeze_row.Goals as goal
 
-pub row-requires-3 : goal.row-requires-3
-row-requires-3 c = rw c.requires.after.0 (first_inside c.args.self.now.count c.args.y c.requires.pair)
-
 pub returns-then-y-eq0 : goal.returns-then-y-eq0
 returns-then-y-eq0 c =
     let r = c.args.self.now in

@@ -38,15 +38,3 @@ loop-x-preserved g c =
       read = read_more g.row.STEP s.third.now x (search rules) c.loop-x.invariant.read;
     }
 
-pub returns : goal.returns
-returns g c =
-    let s = c.args.self.now in
-    let e : c.loop-x.x ≡ s.count = omega (arith, c.loop-x.invariant.in_range, c.loop-x-test.false) in
-    let i = c.loop-x.invariant in
-    record {
-      made = filled_all (average_over s.first.now s.second.now g.row.STEP) s.count c.loop-x.averages (omega arith) (rw e at i.made);
-      left =
-          filled_all (residual_over (g.B.Before.value c.args.before) s.first.now s.second.now s.third.now s.fourth.now g.row.STEP) s.count c.loop-x.residuals
-          (omega arith) (rw e at i.left);
-      read = rw e at i.read;
-    }
