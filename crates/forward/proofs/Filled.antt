@@ -1,10 +1,11 @@
 -- A slice whose first n entries are those of a function (`Filled` of specs/Rows.antt): by a store, by a part that was lent and is now a table of the
 -- next ones, and a slice that is so whole. Assumes nothing.
-use mathlib.Core.Path.{◌≡◌, ◌∙◌}
+use mathlib.Core.Path.{◌≡◌, refl, ◌∙◌}
 use mathlib.Core.List.{List, ◌++◌}
 use mathlib.Core.Logic.{◌⊎◌, inl, inr}
-use Prim.Native.Nat.{ℕ, ◌+◌, ◌-◌, ◌<◌, ◌≤◌}
+use Prim.Native.Nat.{ℕ, ◌+◌, ◌-◌, ◌*◌, ◌<◌, ◌≤◌}
 use native.Mathlib.Omega.{arith}
+use native.Mathlib.Nat.{add-mul}
 use lib.IntN.{ℤ, pos}
 use lib.ListN.{length, get_or, set, take, drop, length-append, length-drop, get_or-append}
 use lib.Seq.{get_or-set_same, get_or-set_other, get_or-take, get_or-append-add, length-take-le}
@@ -66,3 +67,14 @@ pub lent_length : (s k : ℕ) (old part : List ℤ) → s + k ≤ length old →
 lent_length s k old part h e =
     length-append (take s old) (part ++ drop k (drop s old))
     ∙ omega (arith, length-take-le s old (omega arith), length-append part (drop k (drop s old)), length-drop k (drop s old), length-drop s old)
+
+-- ---- rows of w entries
+-- the first row of w entries
+pub first_row : (f : ℕ → ℤ) (w : ℕ) (row others : List ℤ) → row ≡ table f (0 * w) w → Filled f w (row ++ others)
+first_row f w row others e = filled_front f f (0 * w) w row others e (λ x l. let z : 0 * w + x ≡ x = omega arith in rw z)
+
+-- a row after those before it
+pub next_row : (f : ℕ → ℤ) (y w k m : ℕ) (old row : List ℤ) → y * w ≤ length old → row ≡ table f (y * w) w → Filled f (y * w) old → m ≡ (y + 1) * w
+    → Filled f m (take (y * w) old ++ (row ++ drop k (drop (y * w) old)))
+next_row f y w k m old row h e p em =
+    filled_table f f (y * w) (y * w) k w m old row h e (λ x l. refl) p (em ∙ add-mul y 1 w ∙ omega arith)

@@ -1,11 +1,12 @@
 -- Slices filled with the entries of all lines are the averages and the residuals, also of lines of one sample; and what callers ask of
 -- `squeezed_into` (specs/Into.antt). Assumes nothing.
 use mathlib.Core.Path.{◌≡◌, refl, sym, ◌∙◌}
-use mathlib.Core.Bool.{Bool, true}
+use mathlib.Core.Bool.{Bool, true, false}
 use mathlib.Core.List.{List, ◌++◌}
 use mathlib.Core.Logic.{◌⊎◌, inl, inr}
-use Prim.Native.Nat.{ℕ, ◌+◌, ◌*◌, ◌<◌, ◌≤◌}
+use Prim.Native.Nat.{ℕ, ◌+◌, ◌*◌, ◌/◌, ◌<◌, ◌≤◌}
 use native.Mathlib.Omega.{arith}
+use native.Mathlib.Nat.{mul_comm}
 use borrow.Author.Tests.{eq-eqb, le-leb}
 use lib.IntN.{ℤ, pos}
 use lib.ListN.{length, get_or}
@@ -37,6 +38,22 @@ module _ (d : Bool) (lines size : ℕ) (xs : List ℤ) where
   pub residuals_all : (out : List ℤ) → length out ≡ lines * residual_count size → Filled (residual_entry d lines size xs) (lines * residual_count size) out
       → out ≡ residuals_of d lines size xs
   residuals_all out e p = filled_all (residual_entry d lines size xs) (lines * residual_count size) out e p ∙ residuals_entries
+
+-- ---- rows of a vertical squeeze: of residuals as many as there are pairs, of averages too where the lines have no tail
+module _ (count width : ℕ) (xs out : List ℤ) where
+  pub all_averages : count ≤ count / 2 + count / 2 → length out ≡ width * average_count count → Filled (average_entry false width count xs) (count / 2 * width) out
+      → out ≡ averages_of false width count xs
+  all_averages h e p =
+      let k : average_count count ≡ count / 2 = omega arith in
+      let m : count / 2 * width ≡ width * average_count count = rw k (mul_comm (count / 2) width) in
+      averages_all false width count xs out e (rw m at p)
+
+  pub all_residuals : length out ≡ width * residual_count count → Filled (residual_entry false width count xs) (count / 2 * width) out
+      → out ≡ residuals_of false width count xs
+  all_residuals e p =
+      let k : residual_count count ≡ count / 2 = omega arith in
+      let m : count / 2 * width ≡ width * residual_count count = rw k (mul_comm (count / 2) width) in
+      residuals_all false width count xs out e (rw m at p)
 
 -- ---- lines of one sample: their averages are the samples, and there are no residuals
 module _ (lines size : ℕ) (xs : List ℤ) (h : size < 2) where

@@ -117,7 +117,8 @@ impl<const STEP: usize> Stretch<'_, STEP> {
 }
 
 // Average i of a line, whose odd last sample is the tail. This function and the
-// three below have the rule's cases at the line's ends, which no stretch has.
+// three below stand beside `Stretch`, whose loop asks for no end of a line: the
+// rule's cases there are theirs.
 #[tactic(auto, unfolding(line::specs::Forward::average_at))]
 fn average_at(line: &[i32], i: usize) -> i32
     requires { i + i < length line.now }
@@ -246,7 +247,7 @@ impl Rows<'_> {
 
     // Pair y of all lines of a vertical squeeze, with the positions of what stands for
     // the pair after it.
-    #[tactic(auto, using(crate::proofs::Nexts::first_inside))]
+    #[tactic(auto, using(crate::proofs::Nexts::first_inside, crate::proofs::Stretches::row_averages, crate::proofs::Stretches::row_residuals, crate::proofs::Stretches::row_before, crate::proofs::Entries::prev_first))]
     #[inline(always)]
     fn squeeze_row(
         &self,
@@ -293,7 +294,7 @@ impl Rows<'_> {
     // no call, so that all turns read at places of one form: the compiler then tests
     // once, before the first turn, that all that is read lies apart from all that is
     // written.
-    #[tactic(auto, unfolding(crate::specs::Rows::next_first))]
+    #[tactic(auto, using(crate::proofs::Filled::first_row, crate::proofs::Filled::next_row, crate::proofs::Entries::row_ends), unfolding(crate::specs::Rows::next_first))]
     fn pairs_across(&self, averages: &mut [i32], residuals: &mut [i32])
         requires { (length averages.old ≡ self.now.width * average_count self.now.count) × (length residuals.old ≡ self.now.width * residual_count self.now.count) }
         ensures made { Filled (average_entry false self.now.width self.now.count self.now.samples.now) (self.now.count / 2 * self.now.width) averages.new }
@@ -326,6 +327,7 @@ impl Rows<'_> {
     }
 
     // The rows of pairs, then the row of tails.
+    #[tactic(auto, using(crate::proofs::Fitted::all_averages, crate::proofs::Fitted::all_residuals))]
     fn squeeze_across(&self, averages: &mut [i32], residuals: &mut [i32])
         requires { (length averages.old ≡ self.now.width * average_count self.now.count) × (length residuals.old ≡ self.now.width * residual_count self.now.count) }
         ensures made { averages.new ≡ averages_of false self.now.width self.now.count self.now.samples.now }

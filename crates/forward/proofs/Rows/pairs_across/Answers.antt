@@ -1,45 +1,10 @@
--- `pairs_across` meets its contract: row by row (`filled_table` of proofs/Filled.antt). Assumes nothing.
-use mathlib.Core.Path.{◌≡◌, refl, ap, ◌∙◌}
-use mathlib.Core.List.{List, ◌++◌}
-use Prim.Native.Nat.{ℕ, ◌+◌, ◌-◌, ◌*◌, ◌/◌, ◌≤◌}
+-- `pairs_across` meets its contract: row by row (`next_row` of proofs/Filled.antt). Assumes nothing.
+use mathlib.Core.Path.{◌≡◌, refl, ap}
+use Prim.Native.Nat.{ℕ, ◌+◌, ◌-◌, ◌*◌, ◌/◌}
 use native.Mathlib.Omega.{arith}
-use native.Mathlib.Nat.{add-mul}
-use lib.IntN.{ℤ}
-use lib.ListN.{length, take, drop}
-use Rattle.line.specs.Uncut.{table}
-use Rattle.forward.specs.Rows.{Filled}
 use Rattle.forward.proofs.Entries.{row_ends}
-use Rattle.forward.proofs.Filled.{filled_front, filled_table}
+use Rattle.forward.proofs.Filled.{next_row}
 use Rattle.forward.proofs.Rows.pairs_across.Goals as goal
-
--- the first row of w entries
-first_row : (f : ℕ → ℤ) (w : ℕ) (row others : List ℤ) → row ≡ table f (0 * w) w → Filled f w (row ++ others)
-first_row f w row others e = filled_front f f (0 * w) w row others e (λ x l. let z : 0 * w + x ≡ x = omega arith in rw z)
-
-pub returns-then-n-eq1 : goal.returns-then-n-eq1
-returns-then-n-eq1 c =
-    let r = c.args.self.now in
-    let e : r.count / 2 * r.width ≡ r.width = rw c.if-n-eq1.true (omega arith) in
-    record {
-      made = rw e (first_row _ r.width c.end_row.new.averages _ c.end_row.ensures.made);
-      left = rw e (first_row _ r.width c.end_row.new.residuals _ c.end_row.ensures.left);
-    }
-
-pub loop-y-init : goal.loop-y-init
-loop-y-init c =
-    let r = c.args.self.now in
-    let e : 1 * r.width ≡ r.width = omega arith in
-    record {
-      in_range = omega arith;
-      made = rw e (first_row _ r.width c.end_row.new.averages _ c.end_row.ensures.made);
-      left = rw e (first_row _ r.width c.end_row.new.residuals _ c.end_row.ensures.left);
-    }
-
--- a row after those before it
-next_row : (f : ℕ → ℤ) (y w k m : ℕ) (old row : List ℤ) → y * w ≤ length old → row ≡ table f (y * w) w → Filled f (y * w) old → m ≡ (y + 1) * w
-    → Filled f m (take (y * w) old ++ (row ++ drop k (drop (y * w) old)))
-next_row f y w k m old row h e p em =
-    filled_table f f (y * w) (y * w) k w m old row h e (λ x l. refl) p (em ∙ add-mul y 1 w ∙ omega arith)
 
 pub loop-y-preserved : goal.loop-y-preserved
 loop-y-preserved c =

@@ -1,5 +1,5 @@
 -- `squeeze_along` meets its contract: line by line (`filled_table` of proofs/Filled.antt). Assumes nothing.
-use mathlib.Core.Path.{◌≡◌, ◌∙◌}
+use mathlib.Core.Path.{◌≡◌}
 use mathlib.Core.Bool.{true}
 use Prim.Native.Nat.{◌+◌, ◌-◌, ◌*◌, ◌/◌}
 use native.Mathlib.Omega.{arith}
@@ -8,7 +8,6 @@ use Rattle.line.specs.Forward.{average_count, residual_count, average_at, residu
 use Rattle.forward.specs.Rows.{along, average_entry, residual_entry}
 use Rattle.forward.proofs.Entries.{halves, row_room}
 use Rattle.forward.proofs.Filled.{filled_table}
-use Rattle.forward.proofs.Fitted.{averages_all, residuals_all, tails_alone, no_residuals}
 use Rattle.forward.proofs.Stretches.{line_average, line_residual}
 use Rattle.forward.proofs.Rows.squeeze_along.Goals as goal
 
@@ -41,4 +40,3 @@ loop-y-preserved c =
           rw (z, c.row.ensures.value, h.1) (line_residual r.count r.width r.samples.now y x c.loop-y-test.true l))
           c.loop-y.invariant.left (omega arith);
     }
-

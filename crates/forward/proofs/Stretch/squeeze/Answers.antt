@@ -1,5 +1,5 @@
 -- `squeeze` of a stretch meets its contract: one entry more each turn (`filled_set`), and what was read for it. Assumes nothing.
-use mathlib.Core.Path.{◌≡◌, ◌∙◌}
+use mathlib.Core.Path.{◌∙◌}
 use Prim.Native.Nat.{◌*◌}
 use native.Mathlib.Omega.{arith}
 use borrow.Author.Rules.{rules}
@@ -8,7 +8,7 @@ use lib.ListN.{get_or}
 use Rattle.arith32.proofs.Whole.{back32}
 use Rattle.pair.specs.Pair as P
 use Rattle.forward.specs.Rows.{average_over, residual_over}
-use Rattle.forward.proofs.Filled.{filled_set, filled_all}
+use Rattle.forward.proofs.Filled.{filled_set}
 use Rattle.forward.proofs.Stretches.{read_more}
 use Rattle.forward.proofs.Stretch.squeeze.Goals as goal
 
@@ -37,4 +37,3 @@ loop-x-preserved g c =
           c.loop-x.invariant.left;
       read = read_more g.row.STEP s.third.now x (search rules) c.loop-x.invariant.read;
     }
-
