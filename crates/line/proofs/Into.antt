@@ -1,6 +1,6 @@
 -- The test whether sizes and slices fit (`fits` of specs/Into.antt): its value by its parts, and that it says what `Fitting` says, in either
 -- direction. So `uncut_into` is the uncut squeeze where sizes fit, and what was there where they do not. Assumes nothing.
-use mathlib.Core.Path.{◌≡◌, refl, sym, ap, ◌∙◌}
+use mathlib.Core.Path.{◌≡◌, refl, ap, ◌∙◌}
 use mathlib.Core.Bool.{Bool, true, false, ◌&&◌, ◌||◌, and-eq-true_iff}
 use mathlib.Core.List.{List}
 use mathlib.Core.Logic.{◌⊎◌, inl, inr}

@@ -2,7 +2,6 @@
 -- line t that is a stretch of a line l from pair `from` on (`Stretch`) has l's samples from 2 from on: by induction along t, since before
 -- each pair both have the same output. A line is a stretch of another at 0 where the two have the same entries. Assumes nothing.
 use mathlib.Core.Path.{◌≡◌, refl, sym, ◌∙◌}
-use mathlib.Core.Bool.{Bool, true, false}
 use mathlib.Core.Logic.{◌⊎◌, inl, inr}
 use Prim.Native.Nat.{ℕ, zero, suc, ◌+◌, ◌/◌, ◌%◌, ◌<◌, ◌≤◌}
 use native.Mathlib.Omega.{arith}

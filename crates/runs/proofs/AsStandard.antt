@@ -1,20 +1,20 @@
 -- Demand 2 for a whole run: where every sample read or made in any step lies in the domain, the run is the standard's over whole numbers without a
 -- bound (specs/Unbounded.antt). A channel is the standard's line by line (crate line), so is a step, and so is the run by induction along the
 -- list of steps. Assumes nothing.
-use mathlib.Core.Path.{◌≡◌, refl, sym, ap, ◌∙◌}
+use mathlib.Core.Path.{◌≡◌, refl, ap, ◌∙◌}
 use mathlib.Core.Bool.{Bool, true, false, cond}
 use mathlib.Core.List.{List, [], ◌∷◌}
 use mathlib.Core.Logic.{inl}
-use Prim.Native.Nat.{ℕ, ◌+◌, ◌*◌}
+use Prim.Native.Nat.{◌+◌}
 use native.Mathlib.Omega.{arith}
-use lib.IntN.{ℤ, pos}
-use lib.ListN.{length, get_or, take, drop}
+use lib.IntN.{ℤ}
+use lib.ListN.{length, take, drop}
 use Rattle.channel.specs.declared.Channel.{Channel}
 use Rattle.channel.specs.Channel.{samples}
 use Rattle.list.specs.declared.Step.{Step}
 use Rattle.list.specs.Lists.{average, residual, range, stepped}
 use Rattle.list.specs.Tables.{map}
-use Rattle.line.specs.Uncut.{squeeze, Fitting, line_at, position_at, uncut}
+use Rattle.line.specs.Uncut.{squeeze, Fitting, uncut}
 use Rattle.line.specs.Forward.{average_count, residual_count}
 use Rattle.line.specs.Plain.{AllInDomain}
 use Rattle.line.proofs.Places.{is_entries}
