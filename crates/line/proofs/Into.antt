@@ -1,7 +1,7 @@
 -- The test whether sizes and slices fit (`fits` of specs/Into.antt): its value by its parts, and that it says what `Fitting` says, in either
 -- direction. So `uncut_into` is the uncut squeeze where sizes fit, and what was there where they do not. Assumes nothing.
 use mathlib.Core.Path.{◌≡◌, refl, ap, ◌∙◌}
-use mathlib.Core.Bool.{Bool, true, false, ◌&&◌, ◌||◌, and-eq-true_iff}
+use mathlib.Core.Bool.{Bool, true, false, ◌&&◌, ◌||◌}
 use mathlib.Core.List.{List}
 use mathlib.Core.Logic.{◌⊎◌, inl, inr}
 use Prim.Native.Nat.{ℕ, ◌+◌, ◌*◌, ◌<◌, ◌≤◌}
@@ -13,12 +13,12 @@ use lib.ListN.{length}
 use lib.Seq.{ext_get_or}
 use Rattle.line.specs.Uncut.{Squeeze, squeeze, Fitting, uncut}
 use Rattle.line.specs.Into.{outer_fits, fits, uncut_into}
-use Rattle.std.proofs.lemmas.Bool.{cases_lt}
+use Rattle.std.proofs.lemmas.Bool.{and_parts, cases_lt}
 use Rattle.line.proofs.Outputs.{uncut_length}
 
 -- ---- both parts of a conjunction
 pub and_true : (a b : Bool) → a && b ≡ true → (a ≡ true) × (b ≡ true)
-and_true a b = (and-eq-true_iff a b).0
+and_true = and_parts
 
 -- ---- an outer line
 pub outer_line : (lines : ℕ) (xs : List ℤ) → outer_fits lines xs ≡ true → (length xs ≡ 0) ⊎ (length xs ≡ lines)
@@ -57,8 +57,8 @@ module _ (lines m n : ℕ) (avg res next prev out : List ℤ) where
       → (outer_fits lines next && outer_fits lines prev) && eqb (length out) (length avg + length res) ≡ fits lines m n avg res next prev out
   unfolding fits
   by_rest l h e =
-      let a = eqb-true (length avg) (lines * m) (and_true (eqb (length avg) (lines * m)) (eqb (length res) (lines * n)) e).0 in
-      let r = eqb-true (length res) (lines * n) (and_true (eqb (length avg) (lines * m)) (eqb (length res) (lines * n)) e).1 in
+      let a = eqb-true (length avg) (lines * m) (and_parts (eqb (length avg) (lines * m)) (eqb (length res) (lines * n)) e).0 in
+      let r = eqb-true (length res) (lines * n) (and_parts (eqb (length avg) (lines * m)) (eqb (length res) (lines * n)) e).1 in
       let s : length avg + length res ≡ lines * (m + n) = omega arith in
       rw (le-leb n m l, le-leb m (n + 1) h, e, s)
 
@@ -67,12 +67,12 @@ module _ (lines m n : ℕ) (avg res next prev out : List ℤ) where
       → Fitting (squeeze horizontal lines m n avg res next prev) × (length out ≡ lines * (m + n))
   unfolding fits
   fits_fitting horizontal e =
-      let p = and_true (leb n m && leb m (n + 1)) _ e in
-      let q = and_true (leb n m) (leb m (n + 1)) p.0 in
-      let r = and_true (eqb (length avg) (lines * m) && eqb (length res) (lines * n)) _ p.1 in
-      let t = and_true (eqb (length avg) (lines * m)) (eqb (length res) (lines * n)) r.0 in
-      let u = and_true (outer_fits lines next && outer_fits lines prev) _ r.1 in
-      let v = and_true (outer_fits lines next) (outer_fits lines prev) u.0 in (
+      let p = and_parts (leb n m && leb m (n + 1)) _ e in
+      let q = and_parts (leb n m) (leb m (n + 1)) p.0 in
+      let r = and_parts (eqb (length avg) (lines * m) && eqb (length res) (lines * n)) _ p.1 in
+      let t = and_parts (eqb (length avg) (lines * m)) (eqb (length res) (lines * n)) r.0 in
+      let u = and_parts (outer_fits lines next && outer_fits lines prev) _ r.1 in
+      let v = and_parts (outer_fits lines next) (outer_fits lines prev) u.0 in (
         record {
           low = leb-true n m q.0;
           high = leb-true m (n + 1) q.1;

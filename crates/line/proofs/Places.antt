@@ -79,6 +79,11 @@ module _ (horizontal : Bool) (lines size : ℕ) where
       go true = div-add-mod' j size
       go false = div-add-mod' j lines
 
+  -- what is true of every sample of a slice is true of those at its places
+  pub at_place : (P : ℤ → Type 0) (xs : List ℤ) → length xs ≡ lines * size → ((j : ℕ) → j < length xs → P (get_or xs j (pos 0)))
+      → (k i : ℕ) → k < lines → i < size → P (get_or xs (place horizontal lines size k i) (pos 0))
+  at_place P xs e all k i hk hi = let r = place_room_lem k i hk hi in all (place horizontal lines size k i) (omega arith)
+
   -- ---- all entries of all lines, of which f has entry i of line k
   module _ (f : ℕ → ℕ → ℤ) where
     abbrev pub entries : List ℤ

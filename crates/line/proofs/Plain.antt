@@ -11,13 +11,12 @@ use Rattle.standard.specs.Domain.{InDomain}
 use Rattle.standard.specs.Standard as Std
 use Rattle.standard.proofs.Agree.{first_standard, second_standard}
 use Rattle.line.specs.Line.{Line, next_average, before, sample}
-use Rattle.line.specs.Uncut.{Squeeze, Fitting, place, size, uncut, line_of}
+use Rattle.line.specs.Uncut.{Squeeze, Fitting, size, uncut, line_of}
 use Rattle.line.specs.Plain.{InDomainWhole, IsStandard}
 use Rattle.std.proofs.lemmas.Bool.{cases_lt}
 use Rattle.line.proofs.Lines.{Fits, sample_second, before_next, before_first, next_inside, next_last}
-use Rattle.line.proofs.Places.{place_room_lem}
-use Rattle.line.proofs.Outputs.{outer_none}
-use Rattle.line.proofs.Outputs.{uncut_at, uncut_length, line_averages, line_residuals, line_avg, line_res, line_next, line_prev}
+use Rattle.line.proofs.Places.{at_place}
+use Rattle.line.proofs.Outputs.{outer_none, uncut_at, uncut_length, line_averages, line_residuals, line_avg, line_res, line_next, line_prev}
 
 -- a line alone, all of whose samples lie in the domain
 module _ (l : Line) (f : Fits l) (no-next : l.next ≡ []) (no-prev : l.prev ≡ [])
@@ -79,22 +78,19 @@ module _ (s : Squeeze) (fs : Fitting s) (no-next : s.next ≡ []) (no-prev : s.p
     avg_domain : (i : ℕ) → i < (line_of s k).averages → InDomain ((line_of s k).avg i)
     avg_domain i h =
         let n = line_averages s k in
-        let p = place_room_lem s.horizontal s.lines s.averages k i hk (omega arith) in
-        rw (line_avg s k i) (d.avg (place s.horizontal s.lines s.averages k i) (omega (arith, fs.avg_length)))
+        rw (line_avg s k i) (at_place s.horizontal s.lines s.averages InDomain s.avg fs.avg_length d.avg k i hk (omega arith))
 
     res_domain : (i : ℕ) → i < (line_of s k).residuals → InDomain ((line_of s k).res i)
     res_domain i h =
         let n = line_residuals s k in
-        let p = place_room_lem s.horizontal s.lines s.residuals k i hk (omega arith) in
-        rw (line_res s k i) (d.res (place s.horizontal s.lines s.residuals k i) (omega (arith, fs.res_length)))
+        rw (line_res s k i) (at_place s.horizontal s.lines s.residuals InDomain s.res fs.res_length d.res k i hk (omega arith))
 
     out_domain : (j : ℕ) → j < (line_of s k).averages + (line_of s k).residuals → InDomain (sample (line_of s k) j)
     out_domain j h =
         let a = line_averages s k in
         let r = line_residuals s k in
         let hj : j < size s = omega arith in
-        let p = place_room_lem s.horizontal s.lines (size s) k j hk hj in
-        rw (← uncut_at s k j hk hj) (d.out (place s.horizontal s.lines (size s) k j) (omega (arith, uncut_length s)))
+        rw (← uncut_at s k j hk hj) (at_place s.horizontal s.lines (size s) InDomain (uncut s) (uncut_length s) d.out k j hk hj)
 
     line_fits_lem : 0 < size s → Fits (line_of s k)
     line_fits_lem h =

@@ -14,7 +14,7 @@ use Rattle.line.specs.Line.{sample}
 use Rattle.line.specs.Uncut.{Squeeze, squeeze, place, size, line_of, output_at, uncut}
 use Rattle.line.specs.Forward.{average_count, residual_count, average_at, next_at, prev_at, residual_at, line_in, averages_of, residuals_of, Samples}
 use Rattle.line.proofs.Tables.{table_length}
-use Rattle.line.proofs.Places.{place_room_lem, entries, entry_at, is_entries}
+use Rattle.line.proofs.Places.{at_place, entries, entry_at, is_entries}
 use Rattle.std.proofs.lemmas.Bool.{cases_lt}
 use Rattle.line.proofs.Lines.{Fits, Same, same_sample}
 use Rattle.line.proofs.Outputs.{outer_none, uncut_at, line_averages, line_residuals, line_avg, line_res, line_next, line_prev}
@@ -50,7 +50,7 @@ module _ (h : Bool) (lines n : ℕ) (xs : List ℤ) (long : length xs ≡ lines 
   all_samples = omega arith
 
   line_sample : (k : ℕ) → k < lines → (i : ℕ) → i < n → Sample (line_in h lines n xs k i)
-  line_sample k hk i hi = let r = place_room_lem h lines n k i hk hi in f (place h lines n k i) (omega arith)
+  line_sample k hk i hi = at_place h lines n Sample xs long f k i hk hi
 
   same : (k : ℕ) → k < lines → Same (squeezed_line (line_in h lines n xs k) n) (line_of squeezed k)
   same k hk =
@@ -134,14 +134,12 @@ module _ (h : Bool) (lines n : ℕ) (avg res : List ℤ) (la : length avg ≡ li
   avg_sample : (k : ℕ) → k < lines → (i : ℕ) → i < (line_of given k).averages → Sample ((line_of given k).avg i)
   avg_sample k hk i hi =
       let a = line_averages given k in
-      let p = place_room_lem h lines (average_count n) k i hk (omega arith) in
-      rw (line_avg given k i) (fa (place h lines (average_count n) k i) (omega arith))
+      rw (line_avg given k i) (at_place h lines (average_count n) Sample avg la fa k i hk (omega arith))
 
   res_sample : (k : ℕ) → k < lines → (i : ℕ) → i < (line_of given k).residuals → Sample ((line_of given k).res i)
   res_sample k hk i hi =
-      let a = line_residuals given k in
-      let p = place_room_lem h lines (residual_count n) k i hk (omega arith) in
-      rw (line_res given k i) (fr (place h lines (residual_count n) k i) (omega arith))
+      let r = line_residuals given k in
+      rw (line_res given k i) (at_place h lines (residual_count n) Sample res lr fr k i hk (omega arith))
 
   -- what is made of each line of the output is what was given
   back_by : (m : ℕ) (made : (ℕ → ℤ) → ℕ → ℤ) (xs : List ℤ) → length xs ≡ lines * m

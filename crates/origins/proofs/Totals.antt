@@ -1,7 +1,7 @@
 -- "For each origin, the samples of all its channels total the samples of the original": a step keeps the total of each origin, since average and residual
 -- take the origin of the channel squeezed. Assumes nothing.
 use mathlib.Core.Path.{◌≡◌, refl, sym, ap, ◌∙◌}
-use mathlib.Core.Bool.{Bool, true, false, cond}
+use mathlib.Core.Bool.{true}
 use mathlib.Core.List.{List, [], ◌∷◌, ◌++◌}
 use Prim.Native.Nat.{ℕ, ◌+◌, ◌<◌}
 use native.Mathlib.Omega.{arith}
@@ -19,7 +19,7 @@ use Rattle.list.proofs.Parts.{joined, parts_whole}
 use Rattle.list.proofs.Entries.{stepped_length, origins_stepped}
 use Rattle.list.proofs.Totals.{total_append, parts_total, joined_total}
 use Rattle.runs.specs.Runs.{is_taken, layout}
-use Rattle.runs.proofs.Shapes.{taken_inside}
+use Rattle.runs.proofs.Taken.{by_taken, taken_inside}
 use Rattle.origins.specs.Origins.{origins_from, layout_origins, of_origin}
 use Rattle.origins.proofs.Kept.{map_itself, of_append, of_joined, own_one, of_map}
 
@@ -84,14 +84,10 @@ module _ (o : ℕ) (s : Step) (os : List ℕ) (cs : List Channel) (same : length
 module _ (o : ℕ) where
   run_total : (ss : List Step) (cs : List Channel) (os : List ℕ) → length os ≡ length cs → total (of_origin o (origins_from ss cs os) (layout ss cs)) ≡ total (of_origin o os cs)
   run_total [] cs os e = refl
-  run_total (s ∷ ss) cs os e = by (is_taken s cs) refl (run_total ss)
-    where
-      by : (b : Bool) → is_taken s cs ≡ b
-          → ((cs : List Channel) (os : List ℕ) → length os ≡ length cs → total (of_origin o (origins_from ss cs os) (layout ss cs)) ≡ total (of_origin o os cs))
-          → total (of_origin o (cond b (origins_from ss (stepped s cs) (stepped_origins s os)) (origins_from ss cs os)) (cond b (layout ss (stepped s cs)) (layout ss cs)))
-          ≡ total (of_origin o os cs)
-      by true t rest = rest (stepped s cs) (stepped_origins s os) (step_same s cs os e t) ∙ step_total o s os cs e
-      by false t rest = rest cs os e
+  run_total (s ∷ ss) cs os e =
+      by_taken s cs
+      (λ t. rw t (run_total ss (stepped s cs) (stepped_origins s os) (step_same s cs os e t) ∙ step_total o s os cs e))
+      (λ t. rw t (run_total ss cs os e))
 
   pub origin_total : (ss : List Step) (cs : List Channel) → o < length cs → total (of_origin o (layout_origins ss cs) (layout ss cs)) ≡ samples (channel_of cs o)
   origin_total ss cs h = run_total ss cs _ (own_length (length cs)) ∙ rw (own_one o (length cs) cs no_channel refl h) (omega arith)

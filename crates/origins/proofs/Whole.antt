@@ -1,6 +1,5 @@
 -- A.4's claim over whole runs (specs/Claim.antt): each part along the steps, from own positions. Assumes nothing.
 use mathlib.Core.Path.{◌≡◌, refl, sym, ap, ◌∙◌}
-use mathlib.Core.Bool.{Bool, true, false, cond}
 use mathlib.Core.List.{List, [], ◌∷◌}
 use Prim.Native.Nat.{ℕ, ◌<◌}
 use native.Mathlib.Omega.{arith}
@@ -11,8 +10,8 @@ use Rattle.list.specs.Lists.{own_positions, stepped, stepped_origins}
 use Rattle.list.specs.Questions.{channel_of}
 use Rattle.list.proofs.Channels.{own_length, own_at}
 use Rattle.list.proofs.Entries.{residuals_at, stepped_length}
-use Rattle.runs.specs.Runs.{is_taken, layout}
-use Rattle.runs.proofs.Shapes.{taken_inside}
+use Rattle.runs.specs.Runs.{layout}
+use Rattle.runs.proofs.Taken.{by_taken, taken_inside}
 use Rattle.origins.specs.Origins.{origins_from, place_after, averaged_by, averages_place, averages_channel}
 use Rattle.origins.specs.Claim.{IsFirst, OriginLaws}
 use Rattle.origins.proofs.Totals.{step_same, origin_total}
@@ -21,55 +20,44 @@ use Rattle.origins.proofs.Firsts.{first_step, below_step, average_step, place_in
 -- ---- what every run has, by the accepted steps alone
 run_same : (ss : List Step) (cs : List Channel) (os : List ℕ) → length os ≡ length cs → length (origins_from ss cs os) ≡ length (layout ss cs)
 run_same [] cs os e = e
-run_same (s ∷ ss) cs os e = by (is_taken s cs) refl (run_same ss)
-  where
-    by : (b : Bool) → is_taken s cs ≡ b → ((cs : List Channel) (os : List ℕ) → length os ≡ length cs → length (origins_from ss cs os) ≡ length (layout ss cs))
-        → length (cond b (origins_from ss (stepped s cs) (stepped_origins s os)) (origins_from ss cs os)) ≡ length (cond b (layout ss (stepped s cs)) (layout ss cs))
-    by true t rest = rest (stepped s cs) (stepped_origins s os) (step_same s cs os e t)
-    by false t rest = rest cs os e
+run_same (s ∷ ss) cs os e =
+    by_taken s cs
+    (λ t. rw t (run_same ss (stepped s cs) (stepped_origins s os) (step_same s cs os e t)))
+    (λ t. rw t (run_same ss cs os e))
 
 abbrev Below : ℕ → List ℕ → Type 0
 Below m os = (k : ℕ) → k < length os → get_or os k 0 < m
 
 run_below : (m : ℕ) (ss : List Step) (cs : List Channel) (os : List ℕ) → length os ≡ length cs → Below m os → Below m (origins_from ss cs os)
 run_below m [] cs os e h = h
-run_below m (s ∷ ss) cs os e h = by (is_taken s cs) refl (run_below m ss)
-  where
-    by : (b : Bool) → is_taken s cs ≡ b → ((cs : List Channel) (os : List ℕ) → length os ≡ length cs → Below m os → Below m (origins_from ss cs os))
-        → Below m (cond b (origins_from ss (stepped s cs) (stepped_origins s os)) (origins_from ss cs os))
-    by true t rest =
-        let i = taken_inside s cs t in
-        rest (stepped s cs) (stepped_origins s os) (step_same s cs os e t) (below_step s os (omega arith) m h)
-    by false t rest = rest cs os e h
+run_below m (s ∷ ss) cs os e h =
+    by_taken s cs
+    (λ t.
+    let i = taken_inside s cs t in
+    rw t (run_below m ss (stepped s cs) (stepped_origins s os) (step_same s cs os e t) (below_step s os (omega arith) m h)))
+    (λ t. rw t (run_below m ss cs os e h))
 
 run_first : (o : ℕ) (ss : List Step) (cs : List Channel) (os : List ℕ) (p : ℕ) → length os ≡ length cs → IsFirst o os p
     → IsFirst o (origins_from ss cs os) (averages_place ss cs p)
 run_first o [] cs os p e f = f
-run_first o (s ∷ ss) cs os p e f = by (is_taken s cs) refl (run_first o ss)
-  where
-    by : (b : Bool) → is_taken s cs ≡ b
-        → ((cs : List Channel) (os : List ℕ) (p : ℕ) → length os ≡ length cs → IsFirst o os p → IsFirst o (origins_from ss cs os) (averages_place ss cs p))
-        → IsFirst o (cond b (origins_from ss (stepped s cs) (stepped_origins s os)) (origins_from ss cs os)) (cond b (averages_place ss (stepped s cs) (place_after s p)) (averages_place ss cs p))
-    by true t rest =
-        let i = taken_inside s cs t in
-        rest (stepped s cs) (stepped_origins s os) (place_after s p) (step_same s cs os e t) (first_step s os (omega arith) o p f)
-    by false t rest = rest cs os p e f
+run_first o (s ∷ ss) cs os p e f =
+    by_taken s cs
+    (λ t.
+    let i = taken_inside s cs t in
+    rw t (run_first o ss (stepped s cs) (stepped_origins s os) (place_after s p) (step_same s cs os e t) (first_step s os (omega arith) o p f)))
+    (λ t. rw t (run_first o ss cs os p e f))
 
 run_averages : (ss : List Step) (cs : List Channel) (p : ℕ) (c : Channel) → p < length cs → channel_of cs p ≡ c
     → channel_of (layout ss cs) (averages_place ss cs p) ≡ averages_channel ss cs p c
 run_averages [] cs p c h e = e
-run_averages (s ∷ ss) cs p c h e = by (is_taken s cs) refl (run_averages ss)
-  where
-    by : (b : Bool) → is_taken s cs ≡ b
-        → ((cs : List Channel) (p : ℕ) (c : Channel) → p < length cs → channel_of cs p ≡ c → channel_of (layout ss cs) (averages_place ss cs p) ≡ averages_channel ss cs p c)
-        → channel_of (cond b (layout ss (stepped s cs)) (layout ss cs)) (cond b (averages_place ss (stepped s cs) (place_after s p)) (averages_place ss cs p))
-        ≡ cond b (averages_channel ss (stepped s cs) (place_after s p) (averaged_by s p c)) (averages_channel ss cs p c)
-    by true t rest =
-        let i = taken_inside s cs t in
-        let n = stepped_length s cs i in
-        let q = place_inside s (length cs) (residuals_at s cs) p i refl h in
-        rest (stepped s cs) (place_after s p) (averaged_by s p c) (omega arith) (average_step s cs i p h ∙ ap (averaged_by s p) e)
-    by false t rest = rest cs p c h e
+run_averages (s ∷ ss) cs p c h e =
+    by_taken s cs
+    (λ t.
+    let i = taken_inside s cs t in
+    let n = stepped_length s cs i in
+    let q = place_inside s (length cs) (residuals_at s cs) p i refl h in
+    rw t (run_averages ss (stepped s cs) (place_after s p) (averaged_by s p c) (omega arith) (average_step s cs i p h ∙ ap (averaged_by s p) e)))
+    (λ t. rw t (run_averages ss cs p c h e))
 
 -- ---- from own positions
 own_first : (n o : ℕ) → o < n → IsFirst o (own_positions n) o

@@ -2,7 +2,7 @@
 -- bound (specs/Unbounded.antt). A channel is the standard's line by line (crate line), so is a step, and so is the run by induction along the
 -- list of steps. Assumes nothing.
 use mathlib.Core.Path.{◌≡◌, refl, ap, ◌∙◌}
-use mathlib.Core.Bool.{Bool, true, false, cond}
+use mathlib.Core.Bool.{Bool, true}
 use mathlib.Core.List.{List, [], ◌∷◌}
 use mathlib.Core.Logic.{inl}
 use Prim.Native.Nat.{◌+◌}
@@ -24,7 +24,8 @@ use Rattle.runs.specs.Parts.{parts}
 use Rattle.runs.specs.Runs.{lines_of, size_of, channel_back, all_back_by, residual_parts, back_parts, step_back, is_taken, layout, rebuilt}
 use Rattle.runs.specs.Claim.{Fills}
 use Rattle.runs.specs.Unbounded.{standard_back, standard_step, standard_run, RangeInDomain, StepInDomain, RunInDomain}
-use Rattle.runs.proofs.Shapes.{Shaped, taken_inside, parts_shaped, parts_samples}
+use Rattle.runs.proofs.Taken.{by_taken, taken_inside}
+use Rattle.runs.proofs.Shapes.{Shaped, parts_shaped, parts_samples}
 use Rattle.runs.proofs.OneChannel.{all_along, average_samples, residual_samples}
 use Rattle.runs.proofs.OneStep.{step_shapes}
 use Rattle.runs.proofs.Whole.{rebuilt_fills}
@@ -73,14 +74,12 @@ step_standard s cs xs e f d =
 pub run_standard : (ss : List Step) (cs : List Channel) (ys : List ℤ) → Fills (layout ss cs) ys → RunInDomain ss cs ys
     → rebuilt ss cs ys ≡ standard_run ss cs ys
 run_standard [] cs ys f d = refl
-run_standard (s ∷ ss) cs ys f d = by (is_taken s cs) refl f d (run_standard ss)
-  where
-    by : (b : Bool) → is_taken s cs ≡ b → Fills (cond b (layout ss (stepped s cs)) (layout ss cs)) ys
-        → cond b (RunInDomain ss (stepped s cs) ys × StepInDomain s cs (parts (stepped s cs) (rebuilt ss (stepped s cs) ys))) (RunInDomain ss cs ys)
-        → ((cs : List Channel) (ys : List ℤ) → Fills (layout ss cs) ys → RunInDomain ss cs ys → rebuilt ss cs ys ≡ standard_run ss cs ys)
-        → cond b (step_back s cs (rebuilt ss (stepped s cs) ys)) (rebuilt ss cs ys)
-        ≡ cond b (standard_step s cs (standard_run ss (stepped s cs) ys)) (standard_run ss cs ys)
-    by true e g dd rest =
-        step_standard s cs (rebuilt ss (stepped s cs) ys) e (rebuilt_fills ss (stepped s cs) ys g) dd.1
-        ∙ ap (standard_step s cs) (rest (stepped s cs) ys g dd.0)
-    by false e g dd rest = rest cs ys g dd
+run_standard (s ∷ ss) cs ys f d =
+    by_taken s cs
+    (λ t.
+    let g : Fills (layout ss (stepped s cs)) ys = rw t at f in
+    let e : RunInDomain ss (stepped s cs) ys × StepInDomain s cs (parts (stepped s cs) (rebuilt ss (stepped s cs) ys)) = rw t at d in
+    rw t
+    (step_standard s cs (rebuilt ss (stepped s cs) ys) t (rebuilt_fills ss (stepped s cs) ys g) e.1
+    ∙ ap (standard_step s cs) (run_standard ss (stepped s cs) ys g e.0)))
+    (λ t. rw t (run_standard ss cs ys (rw t at f) (rw t at d)))

@@ -1,3 +1,4 @@
+pub mod Taken
 pub mod Shapes
 pub mod OneChannel
 pub mod OneStep

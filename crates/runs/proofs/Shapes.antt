@@ -1,11 +1,9 @@
 -- Slices cut into one part a channel and put together again (specs/Parts.antt): parts of the right lengths (`Shaped`) and slices of a list's
 -- total are the same thing, and 32-bit samples stay so. Assumes nothing.
 use mathlib.Core.Path.{◌≡◌, refl, sym, ap}
-use mathlib.Core.Bool.{true}
 use mathlib.Core.List.{List, [], ◌∷◌, ◌++◌, append_assoc}
-use Prim.Native.Nat.{suc, ◌+◌, ◌≤◌}
+use Prim.Native.Nat.{suc}
 use native.Mathlib.Omega.{arith}
-use borrow.Author.Tests.{eqb-true}
 use lib.IntN.{ℤ, pos}
 use lib.ListN.{length, take, drop, length-append, length-drop, take-append-drop}
 use lib.Seq.{take_at, drop_at, length-take-le}
@@ -14,13 +12,9 @@ use Rattle.std.proofs.lemmas.List.Elements.{All-nil, All-cons, All-head, All-tai
 use Rattle.arith32.specs.Arith.{Sample}
 use Rattle.channel.specs.declared.Channel.{Channel}
 use Rattle.channel.specs.Channel.{samples}
-use Rattle.list.specs.declared.Step.{Step}
 use Rattle.list.specs.Lists.{total}
-use Rattle.list.specs.Questions.{judge_step}
-use Rattle.list.proofs.Acceptance.{step_accepted}
 use Rattle.line.specs.Forward.{Samples}
 use Rattle.runs.specs.Parts.{parts, joined}
-use Rattle.runs.specs.Runs.{is_taken}
 
 -- one part for each channel, as long as the channel has samples
 abbrev pub Shaped : List Channel → List (List ℤ) → Type 0
@@ -29,10 +23,6 @@ Shaped cs ps = AllZip (λ c p. length p ≡ samples c) cs ps
 -- all parts hold 32-bit samples
 abbrev pub AllSamples : List (List ℤ) → Type 0
 AllSamples ps = All Samples ps
-
--- an accepted step's range lies inside the list
-pub taken_inside : (s : Step) (cs : List Channel) → is_taken s cs ≡ true → s.begin + s.number ≤ length cs
-taken_inside s cs e = (step_accepted s cs (eqb-true (judge_step s cs) 0 e)).inside
 
 pub shaped_length : (cs : List Channel) (ps : List (List ℤ)) → Shaped cs ps → length ps ≡ length cs
 shaped_length [] [] h = refl
