@@ -9,7 +9,7 @@ use Prim.Native.Nat.{ℕ, zero, suc, ◌+◌, ◌-◌, ◌*◌, ◌<◌, ◌≤�
 use native.Mathlib.Omega.{arith}
 use borrow.Author.Tests.{eq-eqb, ne_eqb}
 use lib.IntN.{ℤ}
-use lib.ListN.{length, take, drop, length-take, length-drop}
+use lib.ListN.{length}
 use Rattle.line.specs.Line.{Line, next_average, before, sample}
 use Rattle.line.specs.Uncut.{Squeeze, squeeze, Fitting, size, outer, line_of, output_at, uncut}
 use Rattle.cuts.specs.Cut.{Strip, StripFits, is_last, tile_averages, tile_residuals, tile_size, part, line_across, tile_avg, tile_res, tile_out, tile_next, tile_prev, tile_call}
@@ -17,7 +17,7 @@ use Rattle.tile.specs.Call.{answer, after}
 use Rattle.line.proofs.Places.{entries_cong}
 use Rattle.std.proofs.lemmas.Bool.{cases_lt}
 use Rattle.line.proofs.Lines.{Fits, Stretch, stretch_sample, sample_second, before_next, before_first, next_inside, next_last}
-use Rattle.line.proofs.Outputs.{outer_at, outer_part, uncut_at, line_averages, line_residuals, line_avg, line_res, line_next, line_prev}
+use Rattle.line.proofs.Outputs.{outer_at, outer_part, outer_length, uncut_at, line_averages, line_residuals, line_avg, line_res, line_next, line_prev}
 use Rattle.cuts.proofs.Parts.{part_length, part_at, across_length, across_at}
 use Rattle.tile.proofs.Accepted.{Arguments, accepted, accepted_after}
 
@@ -261,26 +261,18 @@ module _ (s : Squeeze) (fs : Fitting s) (p : Strip) (fp : StripFits s p) where
       tile_sample k hk slices t i ht w hi
       ∙ sym (uncut_at s (p.start + k) (p.from t + p.from t + i) (omega (arith, fp.inside)) (omega (arith, sh.avgs, sh.ress))))
 
-  -- a strip's part of an outer line is absent or has the strip's lines
-  outer_length : (xs : List ℤ) → (length xs ≡ 0) ⊎ (length xs ≡ s.lines)
-      → (length (take p.lines (drop p.start xs)) ≡ 0) ⊎ (length (take p.lines (drop p.start xs)) ≡ p.lines)
-  outer_length xs (inl e) =
-      inl (length-take p.lines (drop p.start xs) ∙ rw (length-drop p.start xs, e) (omega arith))
-  outer_length xs (inr e) =
-      inr (length-take p.lines (drop p.start xs) ∙ rw (length-drop p.start xs, e) (omega (arith, fp.inside)))
-
   next_length : (t : ℕ) → t < p.tiles → (length (tile_next s p t) ≡ 0) ⊎ (length (tile_next s p t) ≡ p.lines)
   unfolding tile_next
   next_length t ht = by (which t ht)
     where
       by : Which t → (length (tile_next s p t) ≡ 0) ⊎ (length (tile_next s p t) ≡ p.lines)
-      by (ends e f ea er) = rw f (outer_length s.next fs.next_length)
+      by (ends e f ea er) = rw f (outer_length p.start p.lines s.lines s.next fp.inside fs.next_length)
       by (goes_on g f ea er) =
           rw f (inr (across_length s.horizontal p.lines (tile_averages s p (t + 1)) 0 p.lines 0 (tile_avg s p (t + 1))))
 
   prev_length : (slices : ℕ → List ℤ) (t : ℕ) → (length (tile_prev s p slices t) ≡ 0) ⊎ (length (tile_prev s p slices t) ≡ p.lines)
   unfolding tile_prev
-  prev_length slices zero = outer_length s.prev fs.prev_length
+  prev_length slices zero = outer_length p.start p.lines s.lines s.prev fp.inside fs.prev_length
   prev_length slices (suc t) =
       inr (across_length s.horizontal p.lines (tile_size s p t) 0 p.lines (tile_size s p t - 1) (slices t))
 

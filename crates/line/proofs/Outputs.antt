@@ -1,10 +1,11 @@
 -- What stands in the lines of a squeeze and in its uncut output (specs/Uncut.antt), and in a strip's part of an outer line. Assumes nothing.
 use mathlib.Core.Path.{◌≡◌, refl}
 use mathlib.Core.List.{List, [], ◌∷◌}
-use Prim.Native.Nat.{ℕ, ◌+◌, ◌-◌, ◌*◌, ◌<◌}
+use mathlib.Core.Logic.{◌⊎◌, inl, inr}
+use Prim.Native.Nat.{ℕ, ◌+◌, ◌-◌, ◌*◌, ◌<◌, ◌≤◌}
 use native.Mathlib.Omega.{arith}
 use lib.IntN.{ℤ, pos}
-use lib.ListN.{length, get_or, take, drop}
+use lib.ListN.{length, get_or, take, drop, length-take, length-drop}
 use lib.Seq.{drop-cons, drop-drop, drop-nil, take-take}
 use Rattle.std.proofs.lemmas.List.{drop-take}
 use Rattle.line.specs.Line.{sample}
@@ -56,6 +57,15 @@ outer_at xs k h = rw (drop-cons xs k (pos 0) h)
 -- an absent line has none
 pub outer_none : (k : ℕ) → outer [] k ≡ []
 outer_none k = rw (drop-nil {A = ℤ} k)
+
+-- a part of a slice, and a strip's part of an outer line that is absent or whole
+pub part_length : (start n : ℕ) (xs : List ℤ) → start + n ≤ length xs → length (take n (drop start xs)) ≡ n
+part_length start n xs h = simp (length-take, length-drop) (omega arith)
+
+pub outer_length : (start lines whole : ℕ) (xs : List ℤ) → start + lines ≤ whole → (length xs ≡ 0) ⊎ (length xs ≡ whole)
+    → (length (take lines (drop start xs)) ≡ 0) ⊎ (length (take lines (drop start xs)) ≡ lines)
+outer_length start lines whole xs h (inl e) = inl (simp (length-take, length-drop) (omega arith))
+outer_length start lines whole xs h (inr e) = inr (part_length start lines xs (omega arith))
 
 -- a strip's part of an outer line gives the strip's lines what the whole gives them
 pub outer_part : (xs : List ℤ) (start lines k : ℕ) → k < lines → outer (take lines (drop start xs)) k ≡ outer xs (start + k)
