@@ -247,7 +247,7 @@ impl Rows<'_> {
 
     // Pair y of all lines of a vertical squeeze, with the positions of what stands for
     // the pair after it.
-    #[tactic(auto, using(crate::proofs::Nexts::first_inside, crate::proofs::Stretches::row_averages, crate::proofs::Stretches::row_residuals, crate::proofs::Stretches::row_before, crate::proofs::Entries::prev_first))]
+    #[tactic(auto, using(crate::proofs::Nexts::first_inside, crate::proofs::Stretches::row_averages, crate::proofs::Stretches::row_residuals, crate::proofs::Entries::prev_first))]
     #[inline(always)]
     fn squeeze_row(
         &self,
@@ -294,7 +294,7 @@ impl Rows<'_> {
     // no call, so that all turns read at places of one form: the compiler then tests
     // once, before the first turn, that all that is read lies apart from all that is
     // written.
-    #[tactic(auto, using(crate::proofs::Filled::first_row, crate::proofs::Filled::next_row, crate::proofs::Entries::row_ends), unfolding(crate::specs::Rows::next_first))]
+    #[tactic(auto, using(crate::proofs::Filled::first_row), unfolding(crate::specs::Rows::next_first))]
     fn pairs_across(&self, averages: &mut [i32], residuals: &mut [i32])
         requires { (length averages.old ≡ self.now.width * average_count self.now.count) × (length residuals.old ≡ self.now.width * residual_count self.now.count) }
         ensures made { Filled (average_entry false self.now.width self.now.count self.now.samples.now) (self.now.count / 2 * self.now.width) averages.new }
