@@ -1,7 +1,7 @@
 -- The demands (specs/Demands.antt). Rests on the laws of whole runs, of plans and of tile calls: what is left is that an accepted call's slices
 -- fill their lists, and that its steps are the accepted ones. Assumes nothing.
 use mathlib.Core.Path.{◌≡◌, refl, sym, ap, ◌∙◌}
-use mathlib.Core.Bool.{Bool, true, false, cond, ◌&&◌, and-eq-true_iff}
+use mathlib.Core.Bool.{Bool, true, false, ◌&&◌, and-eq-true_iff}
 use mathlib.Core.List.{List, [], ◌∷◌, ◌++◌}
 use Prim.Native.Nat.{ℕ, ◌≤◌}
 use native.Mathlib.Omega.{arith}
@@ -45,8 +45,9 @@ use Rattle.listing.specs.Listing.{listing, list_answer, text_after, size_after, 
 use Rattle.layout.specs.Layout as Layout
 use Rattle.numbered.proofs.AsWritten as Numbered
 use Rattle.numbered.proofs.ReadBack as NumbersBack
-use Rattle.runs.specs.Runs.{is_taken, layout}
+use Rattle.runs.specs.Runs.{layout}
 use Rattle.runs.specs.Claim.{Fills}
+use Rattle.runs.proofs.Taken.{by_taken}
 use Rattle.runs.proofs.Whole.{squeezed_fills, squeezed_rebuilds, rebuilt_fills, rebuilt_squeezes, exactly_one}
 use Rattle.runs.proofs.AsStandard.{run_standard}
 use Rattle.squeeze.specs.GridRect as Rect
@@ -56,11 +57,7 @@ use Rattle.claims.specs.Demands.{field4097, RefusalKeeps, ListIsStandard, Defaul
 -- ---- the layout: refused steps or not, the sample total stays; accepted steps reach the list that `stepped_all` says
 layout_total : (ss : List Step) (cs : List Channel) → total (layout ss cs) ≡ total cs
 layout_total [] cs = refl
-layout_total (s ∷ ss) cs = by (is_taken s cs) (layout_total ss)
-  where
-    by : (b : Bool) → ((ds : List Channel) → total (layout ss ds) ≡ total ds) → total (cond b (layout ss (stepped s cs)) (layout ss cs)) ≡ total cs
-    by true rest = rest (stepped s cs) ∙ stepped_total s cs
-    by false rest = rest cs
+layout_total (s ∷ ss) cs = by_taken s cs (λ t. rw t (layout_total ss (stepped s cs) ∙ stepped_total s cs)) (λ t. rw t (layout_total ss cs))
 
 pub layout_reached : (ss : List Step) (cs : List Channel) → judge_steps ss cs ≡ 0 → layout ss cs ≡ stepped_all ss cs
 layout_reached [] cs h = refl

@@ -154,25 +154,32 @@ module _ (bytes : List ℕ) (z : read_answer bytes ≡ 0) where
   unfolding Records.read_answer
   form_accepted = (none_refused (form_of bytes).answer _ z).0
 
+  -- its first field is the version's, and the other fields are read after it, or all of them are fields of a list and its steps
+  by_first : {A : Type 0}
+      → (has_version_tag bytes ≡ true → eqb (judge_version_field bytes) 0 ≡ true → (read_fields house_version (length (drop version_size bytes)) (drop version_size bytes) [] []).answer ≡ 0 → A)
+      → (has_version_tag bytes ≡ false → (read_fields standard_version (length bytes) bytes [] []).answer ≡ 0 → A) → A
+  unfolding Reading.fields_of Reading.form_of
+  by_first versioned plain =
+      by_test (has_version_tag bytes)
+      (λ t.
+      by_test (eqb (judge_version_field bytes) 0)
+      (λ a. versioned t a (rw (t, a) at form_accepted))
+      (λ a. absurd (eqb-false _ 0 a (rw (t, a) at form_accepted))))
+      (λ t. plain t (rw t at form_accepted))
+
   told : (form_of bytes).version ≡ cond (has_version_tag bytes) house_version standard_version
   unfolding Reading.fields_of Reading.form_of
   told =
-      by_test (has_version_tag bytes)
-      (λ t.
-      by_test (eqb (judge_version_field bytes) 0)
-      (λ a. rw (t, a) (fields_version house_version (length (drop version_size bytes)) (drop version_size bytes) [] [] (rw (t, a) at form_accepted)))
-      (λ a. absurd (eqb-false _ 0 a (rw (t, a) at form_accepted))))
-      (λ t. rw t (fields_version standard_version (length bytes) bytes [] [] (rw t at form_accepted)))
+      by_first
+      (λ t a k. rw (t, a) (fields_version house_version (length (drop version_size bytes)) (drop version_size bytes) [] [] k))
+      (λ t k. rw t (fields_version standard_version (length bytes) bytes [] [] k))
 
   once : no_tag version_tag (after_version bytes) ≡ true
-  unfolding Before.no_tag Reading.fields_of Reading.form_of
+  unfolding Before.no_tag
   once =
-      by_test (has_version_tag bytes)
-      (λ t.
-      by_test (eqb (judge_version_field bytes) 0)
-      (λ a. rw t (once_fields house_version (length (drop version_size bytes)) (drop version_size bytes) [] [] (rw (t, a) at form_accepted)))
-      (λ a. absurd (eqb-false _ 0 a (rw (t, a) at form_accepted))))
-      (λ t. rw t (once_fields standard_version (length bytes) bytes [] [] (rw t at form_accepted)))
+      by_first
+      (λ t a k. rw t (once_fields house_version (length (drop version_size bytes)) (drop version_size bytes) [] [] k))
+      (λ t k. rw t (once_fields standard_version (length bytes) bytes [] [] k))
 
 -- ---- a version as a number
 module _ (version : ℕ) (l : ChannelList) (s : Steps) (v : is_version version ≡ false) (n : counted l s ≡ true) where

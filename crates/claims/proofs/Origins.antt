@@ -42,6 +42,7 @@ use Rattle.record.specs.Records.{read_answer, read_of, channels_of, steps_of, re
 use Rattle.record.proofs.Readings.{channels_accepted, steps_judged}
 use Rattle.record.proofs.RecordOf.{record_form, record_accepted}
 use Rattle.layout.proofs.Back.{numbers_back}
+use Rattle.runs.proofs.Taken.{by_taken}
 use Rattle.runs.specs.Runs.{is_taken, layout}
 use Rattle.origins.specs.Origins.{origins_from, layout_origins}
 use Rattle.origins.proofs.Whole.{origin_laws}
@@ -71,17 +72,13 @@ module _ (s : Step) (l : ChannelList) (z : judge_list l ≡ 0) where
 step_by_step : (ss : List Step) (l : ChannelList) → judge_list l ≡ 0
     → (channels (after_steps ss l) ≡ layout ss (channels l)) × (origins (after_steps ss l) ≡ origins_from ss (channels l) (origins l))
 step_by_step [] l z = (refl, refl)
-step_by_step (s ∷ ss) l z = by (is_taken s (channels l)) refl (step_by_step ss)
-  where
-    by : (b : Bool) → is_taken s (channels l) ≡ b
-        → ((l : ChannelList) → judge_list l ≡ 0 → (channels (after_steps ss l) ≡ layout ss (channels l)) × (origins (after_steps ss l) ≡ origins_from ss (channels l) (origins l)))
-        → (channels (after_steps ss (taken s l).list) ≡ cond b (layout ss (stepped s (channels l))) (layout ss (channels l)))
-        × (origins (after_steps ss (taken s l).list) ≡ cond b (origins_from ss (stepped s (channels l)) (stepped_origins s (origins l))) (origins_from ss (channels l) (origins l)))
-    by true t rest =
-        let k = took s l z t in
-        let r = rest (taken s l).list k.0 in
-        (r.0 ∙ ap (layout ss) k.1, r.1 ∙ (λ i. origins_from ss (k.1 i) (k.2 i)))
-    by false t rest = rw (stayed s l z t) (rest l z)
+step_by_step (s ∷ ss) l z =
+    by_taken s (channels l)
+    (λ t.
+    let k = took s l z t in
+    let r = step_by_step ss (taken s l).list k.0 in
+    rw t (r.0 ∙ ap (layout ss) k.1, r.1 ∙ (λ i. origins_from ss (k.1 i) (k.2 i))))
+    (λ t. rw (t, stayed s l z t) (step_by_step ss l z))
 
 -- ---- a plan, and a record
 origins_reached : (ss : List Step) (cs : List Channel) (os : List ℕ) → judge_steps ss cs ≡ 0 → origins_from ss cs os ≡ origins_all ss os
