@@ -5,7 +5,7 @@ use Prim.Native.Nat.{ℕ, ◌+◌, ◌-◌, ◌<◌, ◌≤◌}
 use native.Mathlib.Omega.{arith}
 use lib.ListN.{length}
 use Rattle.columns.proofs.OuterRows.{part_rest}
-use Rattle.columns.proofs.LastRows.{last_row_inside, residuals_inside, after_room, last_asked, ended_even, ended_odd}
+use Rattle.columns.proofs.LastRows.{last_row_inside, residuals_inside, after_room, last_wide, last_apart, ended_even, ended_odd}
 use Rattle.columns.proofs.last_rows.Goals as goal
 
 -- the last pair's rows end where the residuals end
@@ -22,14 +22,22 @@ row_after-requires c =
     let x = length a.s.now.res.now - a.w in
     (omega (arith, r, residuals_inside c.requires.0), after_room c.requires.0 x (placed (length a.s.now.res.now) a.w r), c.requires.0.next_length)
 
-pub row_pair-requires : goal.row_pair-requires
-row_pair-requires c =
+pub invariant_of-pair : goal.invariant_of-pair
+invariant_of-pair c =
     let a = c.args in
     let p = placed (length a.s.now.res.now) a.w (last_row_inside c.requires.0 c.requires.1) in
     let x = length a.s.now.res.now - a.w in
     let z : x + a.w - x ≡ a.w = omega arith in
     rw (z, c.row_after.ensures)
-    (last_asked c.requires.0 (a.s.now.residuals - 1) x (counted a.s.now.residuals c.requires.1) p c.requires.3)
+    (record { wide = last_wide c.requires.0 (a.s.now.residuals - 1) x (counted a.s.now.residuals c.requires.1) p })
+
+pub unsqueeze-requires : goal.unsqueeze-requires
+unsqueeze-requires c =
+    let a = c.args in
+    let p = placed (length a.s.now.res.now) a.w (last_row_inside c.requires.0 c.requires.1) in
+    let x = length a.s.now.res.now - a.w in
+    let z : x + a.w - x ≡ a.w = omega arith in
+    rw z (last_apart c.requires.0 (a.s.now.residuals - 1) x (counted a.s.now.residuals c.requires.1) p c.requires.3)
 
 pub returns-then-n-m : goal.returns-then-n-m
 returns-then-n-m c prev =
@@ -37,7 +45,7 @@ returns-then-n-m c prev =
     let p = placed (length a.s.now.res.now) a.w (last_row_inside c.requires.0 c.requires.1) in
     let x = length a.s.now.res.now - a.w in
     let z : x + a.w - x ≡ a.w = omega arith in
-    let made = rw (z, c.row_after.ensures) at c.row_pair.ensures in
+    let made = rw (z, c.row_after.ensures) at c.unsqueeze.ensures in
     let tail = rw (part_rest a.s.now.avg.now (length a.s.now.res.now)) at c.copy_row.ensures in
     rw tail
     (ended_odd c.requires.0 (a.s.now.residuals - 1) (length a.s.now.res.now - a.w) (counted a.s.now.residuals c.requires.1) p made prev c.if-n-m.true (made.long ∙ c.requires.2))
@@ -48,5 +56,5 @@ returns-else-n-m c prev =
     let p = placed (length a.s.now.res.now) a.w (last_row_inside c.requires.0 c.requires.1) in
     let x = length a.s.now.res.now - a.w in
     let z : x + a.w - x ≡ a.w = omega arith in
-    let made = rw (z, c.row_after.ensures) at c.row_pair.ensures in
+    let made = rw (z, c.row_after.ensures) at c.unsqueeze.ensures in
     ended_even c.requires.0 (a.s.now.residuals - 1) (length a.s.now.res.now - a.w) (counted a.s.now.residuals c.requires.1) p made prev c.if-n-m.false
