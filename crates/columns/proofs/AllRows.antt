@@ -40,15 +40,13 @@ module _ {w m n : ℕ} {avg res next prev : List ℤ} (fitting : Fitting (squeez
   module _ (out : List ℤ) (long : length out ≡ w * (m + n)) where
     -- ---- no pair
     module _ (none : n ≡ 0) where
-      averages_room : 0 + length avg ≤ length out
-      averages_room = omega (arith, fitting.avg_length)
+      pub averages_long : length out ≡ length avg
+      averages_long =
+          let z : m + n ≡ m = omega arith in
+          rw z at long ∙ sym fitting.avg_length
 
-      pub averages_copied : pasted out 0 avg ≡ uncut s
-      averages_copied =
-          copied fitting none (pasted_length out 0 avg averages_room ∙ long)
-          (λ k hk h.
-          let z : 0 + (0 * w + k) ≡ 0 * w + k = omega arith in
-          rw z at (pasted_in out 0 avg averages_room (0 * w + k) (omega (arith, first_row_inside h))))
+      pub averages_alone : avg ≡ uncut s
+      averages_alone = copied fitting none (sym averages_long ∙ long) (λ k hk h. refl)
 
     -- ---- pairs, the last of which is i
     module _ (i : ℕ) (last : i + 1 ≡ n) where

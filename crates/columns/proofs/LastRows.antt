@@ -1,10 +1,10 @@
--- The last pair of rows of a vertical squeeze and its row of tails: that they lie inside, and that what a pair of rows and `copy_row` make of them
--- is the end of the lines (`Ended` of the crate line), whatever the previous line. Assumes nothing.
+-- The last pair of rows of a vertical squeeze and its row of tails: that they lie inside, and that what a pair of rows and the copied tails make of
+-- them is the end of the lines (`Ended` of the crate line), whatever the previous line. Assumes nothing.
 use mathlib.Core.Path.{◌≡◌, refl, sym, ap, ◌∙◌}
 use mathlib.Core.Bool.{false}
 use mathlib.Core.List.{List, []}
 use mathlib.Core.Logic.{◌⊎◌, inl, inr}
-use Prim.Native.Nat.{ℕ, ◌+◌, ◌*◌, ◌<◌, ◌≤◌}
+use Prim.Native.Nat.{ℕ, ◌+◌, ◌-◌, ◌*◌, ◌<◌, ◌≤◌}
 use native.Mathlib.Omega.{arith}
 use native.Mathlib.Nat.{mul-le-mul_right}
 use lib.IntN.{ℤ, pos}
@@ -47,6 +47,13 @@ module _ {w m n : ℕ} {avg res next : List ℤ} (fitting : Fitting (squeeze fal
 
     pub tail_room : {room : ℕ} → room ≡ w * (m + n) → length res + length res + length (drop (length res) avg) ≤ room
     tail_room l =
+        let t = tail_length in
+        let e : m ≡ n + 1 = omega (arith, fitting.high) in
+        omega (arith, fitting.res_length, ap (λ (x : ℕ). w * x) e)
+
+    -- and no more room is left than it takes
+    pub tail_left : {room : ℕ} → room ≡ w * (m + n) → room - (length res + length res) ≡ length (drop (length res) avg)
+    tail_left l =
         let t = tail_length in
         let e : m ≡ n + 1 = omega (arith, fitting.high) in
         omega (arith, fitting.res_length, ap (λ (x : ℕ). w * x) e)

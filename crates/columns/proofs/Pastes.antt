@@ -7,12 +7,17 @@ use Prim.Native.Nat.{ℕ, ◌+◌, ◌-◌, ◌<◌, ◌≤◌}
 use native.Mathlib.Omega.{arith}
 use lib.IntN.{ℤ, pos}
 use lib.ListN.{length, get_or, take, drop, get_or-append}
-use lib.Seq.{paste, get_or-take, get_or-drop, get_or-append-add, length-take-le, length-paste, length_paste_head}
+use lib.Seq.{paste, get_or-take, get_or-drop, get_or-append-add, length-take-le, length-paste, length_paste_head, take_all, drop-drop}
 use Rattle.line.proofs.Lines.{lt_or_ge}
 
 -- the slice afterwards
 abbrev pub pasted : List ℤ → ℕ → List ℤ → List ℤ
 pasted d at row = paste d at row (length row)
+
+-- as a part of the slice that was lent leaves it
+pub put_in : (d : List ℤ) (at n : ℕ) (row : List ℤ) → n ≡ length row → take at d ++ (row ++ drop n (drop at d)) ≡ pasted d at row
+put_in d at n row e =
+    rw (e, drop-drop (length row) at d, take_all (length row) row (omega arith), append_assoc (take at d) row (drop (at + length row) d))
 
 module _ (d : List ℤ) (at : ℕ) (row : List ℤ) (inside : at + length row ≤ length d) where
   pub pasted_length : length (pasted d at row) ≡ length d

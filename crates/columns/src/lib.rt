@@ -41,13 +41,6 @@ fn row_after<'a>(avg: &'a [i32], next: &'a [i32], at: usize, w: usize) -> &'a [i
     }
 }
 
-fn copy_row(row: &[i32], out: &mut [i32], to: usize)
-    requires { to + length row.now ≤ length out.old }
-    ensures { out.new ≡ paste out.old to row.now (length row.now) }
-{
-    out[to..to + row.len()].copy_from_slice(row);
-}
-
 fn load(s: &[i32], at: usize) -> [i32; 8]
     requires { at + 8 ≤ length s.now }
     ensures { result ≡ take 8 (drop at s.now) }
@@ -166,7 +159,8 @@ fn last_rows(s: &Squeezed<'_>, w: usize, from: usize, out: &mut [i32])
     let res = s.res;
     let m = s.averages;
     let n = s.residuals;
-    let a = res.len() - w;
+    let e = res.len();
+    let a = e - w;
     let pair = RowPair {
         avg: &avg[a..a + w],
         res: &res[a..a + w],
@@ -176,7 +170,7 @@ fn last_rows(s: &Squeezed<'_>, w: usize, from: usize, out: &mut [i32])
     };
     pair.unsqueeze(out);
     if n < m {
-        copy_row(&avg[res.len()..], out, res.len() + res.len());
+        out[e + e..].copy_from_slice(&avg[e..]);
     }
 }
 
@@ -187,10 +181,10 @@ fn unsqueeze_fitting(s: &Squeezed<'_>, w: usize, out: &mut [i32])
 {
     let n = s.residuals;
     if n == 0 {
-        copy_row(s.avg, out, 0);
+        out.copy_from_slice(s.avg);
         return;
     }
-    copy_row(row_before(s.prev, s.avg, w), out, w);
+    out[w..w + w].copy_from_slice(row_before(s.prev, s.avg, w));
     let from = ordinary_pairs(s.avg, s.res, n - 1, w, out);
     last_rows(s, w, from, out);
 }

@@ -51,13 +51,10 @@ pub extern "C" fn probe_squeeze(first: i32, second: i32, next: i32, prev: i32, o
 fn load_block(s: &[i32], at: usize) -> [i32; 8]
     ensures { result ≡ Probe.block_at s.now at }
 {
-    if s.len() < at {
-        return [0; 8];
-    }
-    match s[at..].first_chunk() {
-        Some(b) => *b,
-        None => [0; 8],
-    }
+    s.get(at..)
+        .and_then(|rest| rest.first_chunk())
+        .copied()
+        .unwrap_or([0; 8])
 }
 
 // `b` over the eight samples from `at` on; nothing where `s` has fewer.

@@ -24,10 +24,9 @@ impl Sides {
     fn area_allowed(self) -> bool
         ensures { result ≡ Call.area_allowed self }
     {
-        match self.width.checked_mul(self.height) {
-            Some(area) => area <= MAX_SAMPLES,
-            None => false,
-        }
+        self.width
+            .checked_mul(self.height)
+            .is_some_and(|area| area <= MAX_SAMPLES)
     }
 
     // The side along a squeeze.
@@ -41,7 +40,7 @@ impl Sides {
     fn across(self, horizontal: bool) -> usize
         ensures { result ≡ Call.across horizontal self }
     {
-        if horizontal { self.height } else { self.width }
+        self.along(!horizontal)
     }
 
     fn is_small(self) -> bool

@@ -2,24 +2,38 @@
 use mathlib.Core.Path.{◌≡◌, ◌∙◌}
 use Prim.Native.Nat.{ℕ, ◌+◌, ◌-◌}
 use native.Mathlib.Omega.{arith}
-use Rattle.columns.proofs.AllRows.{averages_copied, before_row_room, rows_together}
+use lib.ListN.{length}
+use Rattle.columns.specs.Rows.{row_before}
+use Rattle.columns.proofs.OuterRows.{part_length, before_length}
+use Rattle.columns.proofs.Pastes.{put_in}
+use Rattle.columns.proofs.AllRows.{averages_long, averages_alone, before_row_room, rows_together}
 use Rattle.columns.proofs.unsqueeze_fitting.Goals as goal
 
 -- there is a last pair
 counted : (n : ℕ) → (n ≡ 0 → ⊥) → n - 1 + 1 ≡ n
 counted n some = omega arith
 
+pub copy_from_slice-requires : goal.copy_from_slice-requires
+copy_from_slice-requires c = averages_long c.requires.0 c.args.out.now c.requires.3 c.if-n-eq0.true
+
 pub returns-then-n-eq0 : goal.returns-then-n-eq0
 returns-then-n-eq0 c =
-    c.copy_row.ensures ∙ averages_copied c.requires.0 c.args.out.now c.requires.3 c.if-n-eq0.true
+    c.copy_from_slice.ensures.after ∙ averages_alone c.requires.0 c.args.out.now c.requires.3 c.if-n-eq0.true
 
-pub copy_row-requires-2 : goal.copy_row-requires-2
-copy_row-requires-2 c =
-    rw c.row_before.ensures (before_row_room c.requires.0 c.args.out.now c.requires.3 (c.args.s.now.residuals - 1) (counted c.args.s.now.residuals c.if-n-eq0.false))
+pub copy_from_slice-requires-2 : goal.copy_from_slice-requires-2
+copy_from_slice-requires-2 c =
+    let a = c.args in
+    let z : a.w + a.w - a.w ≡ a.w = omega arith in
+    let l = before_length a.s.now.prev.now a.s.now.avg.now a.w in
+    let r = before_row_room c.requires.0 a.out.now c.requires.3 (a.s.now.residuals - 1) (counted a.s.now.residuals c.if-n-eq0.false) in
+    rw (z, c.row_before.ensures, l) (part_length a.out.now a.w a.w (omega arith))
 
 pub returns : goal.returns
 returns c =
-    rows_together c.requires.0 c.args.out.now c.requires.3 (c.args.s.now.residuals - 1) (counted c.args.s.now.residuals c.if-n-eq0.false)
+    let a = c.args in
+    let row = row_before a.s.now.prev.now a.s.now.avg.now a.w in
+    let e : a.w + a.w - a.w ≡ length row = omega (arith, before_length a.s.now.prev.now a.s.now.avg.now a.w) in
+    rows_together c.requires.0 a.out.now c.requires.3 (a.s.now.residuals - 1) (counted a.s.now.residuals c.if-n-eq0.false)
     c.ordinary_pairs-from.result
-    (rw (c.copy_row-2.ensures, c.row_before.ensures) at c.ordinary_pairs-from.ensures.0)
-    (c.last_rows.ensures c.args.s.now.prev.now)
+    (rw (c.copy_from_slice-2.ensures.after, c.row_before.ensures, put_in a.out.now a.w (a.w + a.w - a.w) row e) at c.ordinary_pairs-from.ensures.0)
+    (c.last_rows.ensures a.s.now.prev.now)
