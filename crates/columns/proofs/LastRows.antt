@@ -1,4 +1,4 @@
--- The last pair of rows of a vertical squeeze and its row of tails: that they lie inside, and that what a pair of rows and the copied tails make of
+-- The last pair of rows of a vertical squeeze and its row of tails: that they lie inside, and that what `row_pair` and the copied tails make of
 -- them is the end of the lines (`Ended` of the crate line), whatever the previous line. Assumes nothing.
 use mathlib.Core.Path.{◌≡◌, refl, sym, ap, ◌∙◌}
 use mathlib.Core.Bool.{false}
@@ -63,19 +63,20 @@ module _ {w m n : ℕ} {avg res next : List ℤ} (fitting : Fitting (squeeze fal
     row_at : a ≡ i * w
     row_at = omega (arith, fitting.res_length, ap (λ (x : ℕ). w * x) last)
 
-    -- its rows are as long as each other, and lie apart from the row before where rows of w do
-    pub last_wide : (length (take w (drop a res)) ≡ length (take w (drop a avg))) × (length (row_after avg next a w) ≡ length (take w (drop a avg)))
-    last_wide =
-        let r = residuals_inside in
-        let l = part_length avg a w (omega arith) in
-        (part_length res a w (omega arith) ∙ sym l, after_length avg next a w ∙ sym l)
-
-    pub last_apart : {from room : ℕ} → Apart from ((i + i) * w) w room → Apart from (a + a) (length (take w (drop a avg))) room
-    last_apart p =
+    -- what `row_pair` asks
+    pub last_asked : {from room : ℕ} → Apart from ((i + i) * w) w room
+        → (length (take w (drop a res)) ≡ length (take w (drop a avg)))
+        × (length (row_after avg next a w) ≡ length (take w (drop a avg)))
+        × Apart from (a + a) (length (take w (drop a avg))) room
+    last_asked {from} {room} p =
         let e = row_at in
         let q : a + a ≡ (i + i) * w = omega arith in
         let r = residuals_inside in
-        rw (part_length avg a w (omega arith), q) p
+        let l = part_length avg a w (omega arith) in (
+          part_length res a w (omega arith) ∙ sym l,
+          after_length avg next a w ∙ sym l,
+          rw (l, q) p,
+        )
 
     module _ {from : ℕ} {old mid : List ℤ}
         (c : Columns (take w (drop a avg)) (take w (drop a res)) (row_after avg next a w) old mid from (a + a) 0 (length (take w (drop a avg))))

@@ -1,4 +1,4 @@
--- Eight lanes `stride` samples apart (specs/Lanes.antt): an array that is filled with them from the front, and what a slice holds at the
+-- Eight lanes `stride` samples apart (specs/Lanes.antt): an array that is made of them, and what a slice holds at the
 -- lanes and elsewhere after they are put in. Assumes nothing.
 use mathlib.Core.Path.{◌≡◌, refl, ◌∙◌}
 use mathlib.Core.List.{List}
@@ -18,16 +18,12 @@ pub lane_room : (at stride k room : ℕ) → k < 8 → at + 7 * stride < room �
 lane_room at stride k room h r = let m : k * stride ≤ 7 * stride = mul-le-mul_right stride (omega arith) in omega arith
 
 -- ---- taken out
-pub record Loaded (s : List ℤ) (at stride : ℕ) (b : List ℤ) (i : ℕ) : Type 0 where
-  pub long : length b ≡ 8
-  pub inside : i ≤ 8
-  pub done : (k : ℕ) → k < i → get_or b k (pos 0) ≡ get_or s (at + k * stride) (pos 0)
-
-pub loaded_all : (s : List ℤ) (at stride : ℕ) (b : List ℤ) (i : ℕ) → 8 ≤ i → Loaded s at stride b i → b ≡ lanes_at s at stride
+pub lanes_made : (s : List ℤ) (at stride : ℕ) (b : List ℤ) → length b ≡ 8
+    → ((k : ℕ) → k < 8 → get_or b k (pos 0) ≡ get_or s (at + k * stride) (pos 0)) → b ≡ lanes_at s at stride
 unfolding lanes_at
-loaded_all s at stride b i h w =
-    is_table (λ k. get_or s (at + k * stride) (pos 0)) 0 8 b w.long
-    (λ k l. let z : 0 + k ≡ k = omega arith in rw z (w.done k (omega arith)))
+lanes_made s at stride b long each =
+    is_table (λ k. get_or s (at + k * stride) (pos 0)) 0 8 b long
+    (λ k l. let z : 0 + k ≡ k = omega arith in rw z (each k l))
 
 pub lanes_length : (s : List ℤ) (at stride : ℕ) → length (lanes_at s at stride) ≡ 8
 unfolding lanes_at

@@ -3,15 +3,13 @@
 ghost use Rattle.std.specs.Prelude.{◌≡◌, ◌+◌, ◌*◌, ◌<◌, ◌≤◌, length};
 ghost use Rattle.eight_rows.specs.Lanes.{lanes_at, with_lanes};
 
+use std::array;
+
 pub(crate) fn load_lanes(s: &[i32], at: usize, stride: usize) -> [i32; 8]
     requires { at + 7 * stride < length s.now }
     ensures { result ≡ lanes_at s.now at stride }
 {
-    let mut b = [0i32; 8];
-    for k in 0..8 {
-        b[k] = s[at + k * stride];
-    }
-    b
+    array::from_fn(|k| s[at + k * stride])
 }
 
 pub(crate) fn store_lanes(s: &mut [i32], at: usize, stride: usize, b: [i32; 8])

@@ -11,7 +11,7 @@ loop-preserved c =
     let w = c.args.w in
     let y : a + w - a ≡ w = omega arith in
     let z : a + w + w - (a + w) ≡ w = omega arith in
-    down_more c.loop.invariant c.loop-test.true c.requires.0 (rw (y, z) at c.unsqueeze.ensures)
+    down_more c.loop.invariant c.loop-test.true c.requires.0 (rw (y, z) at c.row_pair.ensures)
 
 pub returns : goal.returns
 returns c =
