@@ -67,7 +67,8 @@ fn store_block(s: &mut [i32], at: usize, b: [i32; 8])
     if s.len() - at < 8 {
         return;
     }
-    // Not `copy_from_slice`: it takes a third more instructions for a whole block.
+    // Not `copy_from_slice`: by bench/pair.sh a block takes 194 instructions with it,
+    // 1.21 times plain Rust's, and so 180, 1.12 times.
     for i in 0..8 {
         s[at + i] = b[i];
     }
