@@ -6,9 +6,11 @@ use mathlib.Core.Logic.{◌⊎◌, inl, inr}
 use Prim.Native.Nat.{ℕ, zero, suc, ◌+◌, ◌*◌, ◌<◌, ◌≤◌}
 use native.Mathlib.Omega.{arith}
 use native.Mathlib.Nat.{mul-le-mul_right}
+use denote.Param.Members.{Mut, Called}
 use lib.IntN.{ℤ, pos}
 use lib.ListN.{length, get_or, length-set}
 use lib.Seq.{get_or-set_same, get_or-set_other}
+use Rattle.std.specs.Array.{IsFromFnResultFrom}
 use Rattle.eight_rows.specs.Lanes.{lanes_at, with_some, with_lanes}
 use Rattle.line.proofs.Tables.{is_table, table_at, table_length}
 use Rattle.line.proofs.Lines.{lt_or_ge}
@@ -18,12 +20,24 @@ pub lane_room : (at stride k room : ℕ) → k < 8 → at + 7 * stride < room �
 lane_room at stride k room h r = let m : k * stride ≤ 7 * stride = mul-le-mul_right stride (omega arith) in omega arith
 
 -- ---- taken out
+-- an array of what calls of a closure gave that stays as it was
+pub from_calls : {F : Type 0} (g : Mut F (ℕ × Unit {0}) ℤ) (f : F) (b : List ℤ) (h : ℕ → ℤ)
+    → ((i : ℕ) (y : ℤ) (q : F) → Called g f (i, tt) y q → (y ≡ h i) × (q ≡ f))
+    → (i n : ℕ) → IsFromFnResultFrom g f b i n → (k : ℕ) → k < n → get_or b (i + k) (pos 0) ≡ h (i + k)
+from_calls g f b h step i zero r k l = absurd (omega arith)
+from_calls g f b h step i (suc n) (q, y, at, called, rest) zero l =
+    let z : i + 0 ≡ i = omega arith in
+    rw z (at.1 (pos 0) ∙ (step i y q called).0)
+from_calls g f b h step i (suc n) (q, y, at, called, rest) (suc k) l =
+    let z : i + suc k ≡ i + 1 + k = omega arith in
+    rw z (from_calls g f b h step (i + 1) n (rw (step i y q called).1 at rest) k (omega arith))
+
 pub lanes_made : (s : List ℤ) (at stride : ℕ) (b : List ℤ) → length b ≡ 8
-    → ((k : ℕ) → k < 8 → get_or b k (pos 0) ≡ get_or s (at + k * stride) (pos 0)) → b ≡ lanes_at s at stride
+    → ((k : ℕ) → k < 8 → get_or b (0 + k) (pos 0) ≡ get_or s (at + (0 + k) * stride) (pos 0)) → b ≡ lanes_at s at stride
 unfolding lanes_at
 lanes_made s at stride b long each =
     is_table (λ k. get_or s (at + k * stride) (pos 0)) 0 8 b long
-    (λ k l. let z : 0 + k ≡ k = omega arith in rw z (each k l))
+    (λ k l. let z : 0 + k ≡ k = omega arith in rw z (rw z at (each k l)))
 
 pub lanes_length : (s : List ℤ) (at stride : ℕ) → length (lanes_at s at stride) ≡ 8
 unfolding lanes_at

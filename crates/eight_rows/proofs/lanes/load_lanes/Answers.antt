@@ -4,7 +4,7 @@ use Prim.Native.Nat.{◌+◌, ◌*◌}
 use borrow.Author.Rules.{rules}
 use lib.IntN.{pos}
 use lib.ListN.{get_or}
-use Rattle.eight_rows.proofs.Strides.{lanes_made}
+use Rattle.eight_rows.proofs.Strides.{lanes_made, from_calls}
 use Rattle.eight_rows.proofs.lanes.load_lanes.Goals as goal
 
 pub returns : goal.returns
@@ -12,4 +12,4 @@ returns c =
     let a = c.args in
     let made = c.from_fn.ensures.items in
     lanes_made a.s.now a.at a.stride c.from_fn.result made.long
-    (λ k h. let each = made.at k (pos 0) h in search rules)
+    (from_calls _ _ c.from_fn.result (λ k. get_or a.s.now (a.at + k * a.stride) (pos 0)) (λ i y q e. (search rules, search rules)) 0 8 made.each)
