@@ -10,7 +10,7 @@ use denote.Param.Members.{Mut, Called}
 use lib.IntN.{ℤ, pos}
 use lib.ListN.{length, get_or, length-set}
 use lib.Seq.{get_or-set_same, get_or-set_other}
-use Rattle.std.specs.Array.{IsFromFnResultFrom}
+use Rattle.std.specs.Array.{IsFromFnResult, IsFromFnResultFrom}
 use Rattle.eight_rows.specs.Lanes.{lanes_at, with_some, with_lanes}
 use Rattle.line.proofs.Tables.{is_table, table_at, table_length}
 use Rattle.line.proofs.Lines.{lt_or_ge}
@@ -21,23 +21,23 @@ lane_room at stride k room h r = let m : k * stride ≤ 7 * stride = mul-le-mul_
 
 -- ---- taken out
 -- an array of what calls of a closure gave that stays as it was
-pub from_calls : {F : Type 0} (g : Mut F (ℕ × Unit {0}) ℤ) (f : F) (b : List ℤ) (h : ℕ → ℤ)
+from_calls : {F : Type 0} {g : Mut F (ℕ × Unit {0}) ℤ} {f : F} (b : List ℤ) (h : ℕ → ℤ)
     → ((i : ℕ) (y : ℤ) (q : F) → Called g f (i, tt) y q → (y ≡ h i) × (q ≡ f))
     → (i n : ℕ) → IsFromFnResultFrom g f b i n → (k : ℕ) → k < n → get_or b (i + k) (pos 0) ≡ h (i + k)
-from_calls g f b h step i zero r k l = absurd (omega arith)
-from_calls g f b h step i (suc n) (q, y, at, called, rest) zero l =
+from_calls b h step i zero r k l = absurd (omega arith)
+from_calls b h step i (suc n) (q, y, at, called, rest) zero l =
     let z : i + 0 ≡ i = omega arith in
     rw z (at.1 (pos 0) ∙ (step i y q called).0)
-from_calls g f b h step i (suc n) (q, y, at, called, rest) (suc k) l =
+from_calls {F} {g} {f} b h step i (suc n) (q, y, at, called, rest) (suc k) l =
     let z : i + suc k ≡ i + 1 + k = omega arith in
-    rw z (from_calls g f b h step (i + 1) n (rw (step i y q called).1 at rest) k (omega arith))
+    rw z (from_calls {g = g} {f = f} b h step (i + 1) n (rw (step i y q called).1 at rest) k (omega arith))
 
-pub lanes_made : (s : List ℤ) (at stride : ℕ) (b : List ℤ) → length b ≡ 8
-    → ((k : ℕ) → k < 8 → get_or b (0 + k) (pos 0) ≡ get_or s (at + (0 + k) * stride) (pos 0)) → b ≡ lanes_at s at stride
+pub lanes_made : {F : Type 0} {g : Mut F (ℕ × Unit {0}) ℤ} {f : F} (s : List ℤ) (at stride : ℕ) (b : List ℤ) → IsFromFnResult g f b 8
+    → ((i : ℕ) (y : ℤ) (q : F) → Called g f (i, tt) y q → (y ≡ get_or s (at + i * stride) (pos 0)) × (q ≡ f)) → b ≡ lanes_at s at stride
 unfolding lanes_at
-lanes_made s at stride b long each =
-    is_table (λ k. get_or s (at + k * stride) (pos 0)) 0 8 b long
-    (λ k l. let z : 0 + k ≡ k = omega arith in rw z (rw z at (each k l)))
+lanes_made s at stride b made step =
+    is_table (λ k. get_or s (at + k * stride) (pos 0)) 0 8 b made.long
+    (λ k l. let z : 0 + k ≡ k = omega arith in rw z (rw z at (from_calls b (λ i. get_or s (at + i * stride) (pos 0)) step 0 8 made.each k l)))
 
 pub lanes_length : (s : List ℤ) (at stride : ℕ) → length (lanes_at s at stride) ≡ 8
 unfolding lanes_at

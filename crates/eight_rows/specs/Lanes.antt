@@ -1,5 +1,5 @@
--- Eight lanes of a slice, `stride` samples apart from `at` on: a block taken out, and one put in. And the slices of eight rows. Definitions only.
-use Rattle.std.specs.Prelude.{◌≡◌, List, ℕ, zero, suc, ◌+◌, ◌*◌, ◌≤◌, ℤ, pos, length, get_or, set}
+-- Eight lanes of a slice, `stride` samples apart from `at` on: a block taken out, and one put in. Definitions only.
+use Rattle.std.specs.Prelude.{List, ℕ, zero, suc, ◌+◌, ◌*◌, ℤ, pos, get_or, set}
 use Rattle.line.specs.Uncut.{table}
 
 unfoldable pub lanes_at : List ℤ → ℕ → ℕ → List ℤ
@@ -16,10 +16,3 @@ with_lanes s at stride b = with_some s at stride b 8
 -- sample k of a block
 abbrev pub lane : List ℤ → ℕ → ℤ
 lane b k = get_or b k (pos 0)
-
--- slices of eight rows of m averages, n residuals and m + n samples
-pub record Sized (m n : ℕ) (avg res out : List ℤ) : Type 0 where
-  pub low : n ≤ m
-  pub avg_length : length avg ≡ 8 * m
-  pub res_length : length res ≡ 8 * n
-  pub out_length : length out ≡ 8 * (m + n)

@@ -3,14 +3,14 @@ use mathlib.Core.Path.{◌≡◌}
 use Prim.Native.Nat.{◌+◌, ◌-◌, ◌*◌, ◌/◌}
 use native.Mathlib.Omega.{arith}
 use Rattle.line.proofs.Pairs.{join}
-use Rattle.eight_rows.proofs.ordinary_pairs.Goals as goal
+use Rattle.eight_rows.proofs.EightRows.ordinary_pairs.Goals as goal
 
 pub loop-k-preserved : goal.loop-k-preserved
 loop-k-preserved c =
     let i = 8 * c.loop-k.k in
     let z : 0 + i ≡ i = omega arith in
     let n : 8 * (c.loop-k.k + 1) ≡ i + 8 = omega arith in
-    rw n (join c.requires.0.low (omega arith) c.loop-k.invariant (rw z c.part_pairs-last.ensures))
+    rw n (join c.args.self.now.low (omega arith) c.loop-k.invariant (rw z c.part_pairs-last.ensures))
 
 pub returns : goal.returns
 returns c =
@@ -19,4 +19,4 @@ returns c =
     let done : 8 * c.loop-k.k ≡ i = omega arith in
     let z : 0 + i ≡ i = omega arith in
     let e : i + (a.to - i) ≡ a.to = omega arith in
-    rw (← e) (join c.requires.0.low (omega arith) (rw done at c.loop-k.invariant) (rw z c.single_pairs.ensures))
+    rw (← e) (join c.args.self.now.low (omega arith) (rw done at c.loop-k.invariant) (rw z c.single_pairs.ensures))

@@ -6,13 +6,14 @@ use native.Mathlib.Omega.{arith}
 use borrow.Author.Rules.{rules}
 use lib.ListN.{length}
 use Rattle.eight_rows.proofs.Blocks.{four_ordinary}
-use Rattle.eight_rows.proofs.four_pairs.Goals as goal
+use Rattle.eight_rows.proofs.EightRows.four_pairs.Goals as goal
 
 pub returns : goal.returns
 returns c =
     λ res lanes.
     let g = c.args in
-    let pre = c.requires in
+    let rows = g.self.now in
+    let s = rows.squeezed in
     let eight : length g.prior ≡ 8 = search rules in
     let zq : g.q + 0 ≡ g.q = omega arith in
     let zp : g.p + 0 ≡ g.p = omega arith in
@@ -24,8 +25,8 @@ returns c =
       c.unsqueeze_block-b.ensures,
       c.unsqueeze_block-a.ensures,
     )
-    (four_ordinary g.m g.n g.avg.now res c.load_lanes.result c.load_lanes-2.result c.load_lanes-avg1.result c.load_lanes-3.result
-    c.load_lanes-avg2.result c.load_lanes-4.result c.load_lanes-avg3.result c.load_lanes-5.result c.load_lanes-6.result g.prior g.out.now g.p
-    (omega arith) pre.0 eight c.load_lanes.ensures c.load_lanes-avg1.ensures c.load_lanes-avg2.ensures c.load_lanes-avg3.ensures
-    c.load_lanes-6.ensures (c.load_lanes-2.ensures ∙ rw (zq, zp) at (lanes 0 (omega arith))) (c.load_lanes-3.ensures ∙ lanes 1 (omega arith))
-    (c.load_lanes-4.ensures ∙ lanes 2 (omega arith)) (c.load_lanes-5.ensures ∙ lanes 3 (omega arith)) pre.2)
+    (four_ordinary s.averages s.residuals s.avg.now res c.averages.result c.load_lanes.result c.averages-avg1.result c.load_lanes-2.result
+    c.averages-avg2.result c.load_lanes-3.result c.averages-avg3.result c.load_lanes-4.result c.averages-2.result g.prior g.out.now g.p
+    (omega arith) rows.low eight c.averages.ensures c.averages-avg1.ensures c.averages-avg2.ensures c.averages-avg3.ensures
+    c.averages-2.ensures (c.load_lanes.ensures ∙ rw (zq, zp) at (lanes 0 (omega arith))) (c.load_lanes-2.ensures ∙ lanes 1 (omega arith))
+    (c.load_lanes-3.ensures ∙ lanes 2 (omega arith)) (c.load_lanes-4.ensures ∙ lanes 3 (omega arith)) c.requires.0)

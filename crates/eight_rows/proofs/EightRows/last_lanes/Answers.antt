@@ -6,33 +6,35 @@ use native.Mathlib.Omega.{arith}
 use borrow.Author.Rules.{rules}
 use lib.ListN.{length}
 use Rattle.eight_rows.proofs.Blocks.{block_end, block_end_tail}
-use Rattle.eight_rows.proofs.last_lanes.Goals as goal
+use Rattle.eight_rows.proofs.EightRows.last_lanes.Goals as goal
 
 pub returns-then-n-m : goal.returns-then-n-m
 returns-then-n-m c =
-    λ prev.
     let a = c.args in
-    let i = a.s.now.residuals - 1 in
+    let rows = a.self.now in
+    let s = rows.squeezed in
+    let i = s.residuals - 1 in
     -- blocks of eight
     let next_eight : length c.last_next-following.result ≡ 8 = search rules in
     let prior_eight : length a.prior ≡ 8 = search rules in
-    let e : a.s.now.residuals - 1 + (a.s.now.residuals - 1) + 2 ≡ a.s.now.residuals + a.s.now.residuals = omega arith in
+    let e : i + i + 2 ≡ s.residuals + s.residuals = omega arith in
     rw (c.store_lanes-then-n-m.ensures, c.store_lanes-2.ensures, c.store_lanes.ensures)
-    (block_end_tail a.s.now.averages a.s.now.residuals a.s.now.avg.now a.s.now.res.now a.s.now.next.now prev c.load_lanes-own.result c.load_lanes.result c.last_next-following.result
-    a.prior a.out.now _ _ i (omega arith) c.requires.0.low next_eight prior_eight c.load_lanes-own.ensures c.load_lanes.ensures
+    (block_end_tail s.averages s.residuals s.avg.now s.res.now s.next.now s.prev.now c.averages-own.result c.residuals.result c.last_next-following.result
+    a.prior a.out.now _ _ i (omega arith) rows.low next_eight prior_eight c.averages-own.ensures c.residuals.ensures
     c.requires.2 c.last_next-following.ensures (rw c.unsqueeze_block-pairs.ensures) (rw c.unsqueeze_block-pairs.ensures)
-    _ c.if-n-m.true c.load_lanes-then-n-m.ensures)
+    _ c.if-n-m.true c.averages.ensures)
 
 pub returns-else-n-m : goal.returns-else-n-m
 returns-else-n-m c =
-    λ prev.
     let a = c.args in
-    let i = a.s.now.residuals - 1 in
+    let rows = a.self.now in
+    let s = rows.squeezed in
+    let i = s.residuals - 1 in
     -- blocks of eight
     let next_eight : length c.last_next-following.result ≡ 8 = search rules in
     let prior_eight : length a.prior ≡ 8 = search rules in
     rw (c.store_lanes-2.ensures, c.store_lanes.ensures)
-    (block_end a.s.now.averages a.s.now.residuals a.s.now.avg.now a.s.now.res.now a.s.now.next.now prev c.load_lanes-own.result c.load_lanes.result c.last_next-following.result
-    a.prior a.out.now _ _ i (omega arith) c.requires.0.low next_eight prior_eight c.load_lanes-own.ensures c.load_lanes.ensures
+    (block_end s.averages s.residuals s.avg.now s.res.now s.next.now s.prev.now c.averages-own.result c.residuals.result c.last_next-following.result
+    a.prior a.out.now _ _ i (omega arith) rows.low next_eight prior_eight c.averages-own.ensures c.residuals.ensures
     c.requires.2 c.last_next-following.ensures (rw c.unsqueeze_block-pairs.ensures) (rw c.unsqueeze_block-pairs.ensures)
     c.if-n-m.false)

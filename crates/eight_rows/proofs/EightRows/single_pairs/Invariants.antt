@@ -4,13 +4,14 @@ use mathlib.Core.Path.{◌≡◌}
 use mathlib.Core.Bool.{true}
 use Prim.Native.Nat.{◌-◌, ◌≤◌}
 use lib.ListN.{length}
-use Rattle.line.specs.Pairs.{lines_of, Ordinary}
+use Rattle.line.specs.Pairs.{inner, Ordinary}
+use Rattle.line.specs.Squeezed.{squeeze_of}
 use Rattle.eight_rows.specs.Lanes.{lane}
-use Rattle.eight_rows.proofs.single_pairs.Given as goal
+use Rattle.eight_rows.proofs.EightRows.single_pairs.Given as goal
 
 abbrev pub invariant-loop-i : goal.invariant-loop-i
 invariant-loop-i l =
-    Ordinary (lines_of true 8 l.m l.n l.avg l.res) (lane l.initial.before) (lane l.before) l.initial.out l.out l.from (l.i - l.from)
+    Ordinary (inner (squeeze_of true 8 l.self.squeezed)) (lane l.initial.before) (lane l.before) l.initial.out l.out l.from (l.i - l.from)
     × (length l.before ≡ 8) × (l.from ≤ l.i) × (l.i ≤ l.to)
 
 abbrev pub decreases-loop-i : goal.decreases-loop-i

@@ -2,13 +2,14 @@
 -- those that are left come after it. The measure is the pairs that are left. Assumes nothing.
 use mathlib.Core.Bool.{true}
 use Prim.Native.Nat.{◌-◌, ◌*◌}
-use Rattle.line.specs.Pairs.{lines_of, Ordinary}
+use Rattle.line.specs.Pairs.{inner, Ordinary}
+use Rattle.line.specs.Squeezed.{squeeze_of}
 use Rattle.eight_rows.specs.Lanes.{lane}
-use Rattle.eight_rows.proofs.ordinary_pairs.Given as goal
+use Rattle.eight_rows.proofs.EightRows.ordinary_pairs.Given as goal
 
 abbrev pub invariant-loop-k : goal.invariant-loop-k
 invariant-loop-k l =
-    Ordinary (lines_of true 8 l.m l.n l.avg l.res) (lane l.initial.before) (lane l.before) l.initial.out l.out 0 (8 * l.k)
+    Ordinary (inner (squeeze_of true 8 l.self.squeezed)) (lane l.initial.before) (lane l.before) l.initial.out l.out 0 (8 * l.k)
 
 abbrev pub decreases-loop-k : goal.decreases-loop-k
 decreases-loop-k l = l.k-end - l.k

@@ -2,13 +2,14 @@
 -- residuals of a turn are lanes of the part, and so of the rows. The measure is the turns that are left. Assumes nothing.
 use mathlib.Core.Bool.{true}
 use Prim.Native.Nat.{◌-◌, ◌*◌}
-use Rattle.line.specs.Pairs.{lines_of, Ordinary}
+use Rattle.line.specs.Pairs.{inner, Ordinary}
+use Rattle.line.specs.Squeezed.{squeeze_of}
 use Rattle.eight_rows.specs.Lanes.{lane}
-use Rattle.eight_rows.proofs.part_pairs.Given as goal
+use Rattle.eight_rows.proofs.EightRows.part_pairs.Given as goal
 
 abbrev pub invariant-loop-j : goal.invariant-loop-j
 invariant-loop-j l =
-    Ordinary (lines_of true 8 l.m l.n l.avg l.res) (lane l.initial.before) (lane l.before) l.initial.out l.out l.i (4 * l.j)
+    Ordinary (inner (squeeze_of true 8 l.self.squeezed)) (lane l.initial.before) (lane l.before) l.initial.out l.out l.i (4 * l.j)
 
 abbrev pub decreases-loop-j : goal.decreases-loop-j
 decreases-loop-j l = 2 - l.j
