@@ -1,3 +1,4 @@
 pub mod Row
 pub mod Strips
 pub mod Bands
+pub mod Parts

@@ -1,11 +1,12 @@
 -- `rows_by_eight` meets its contract: a turn writes a strip of eight rows (proofs/Strips.antt). Assumes nothing.
 use mathlib.Core.Path.{◌≡◌, ◌∙◌}
 use mathlib.Core.Bool.{true}
-use Prim.Native.Nat.{◌+◌, ◌-◌, ◌*◌, ◌≤◌}
+use Prim.Native.Nat.{◌+◌, ◌*◌, ◌≤◌}
 use native.Mathlib.Omega.{arith}
 use Rattle.line.specs.Squeezed.{squeeze_of}
 use Rattle.line.proofs.Outputs.{uncut_length}
 use Rattle.rows.proofs.Strips.{rows_room, rows_span, part_length, strip_into}
+use Rattle.rows.proofs.Parts.{part_strip}
 use Rattle.rows.proofs.Bands.{down_more}
 use Rattle.rows.proofs.rows_by_eight.Goals as goal
 
@@ -13,16 +14,14 @@ pub loop-k-preserved : goal.loop-k-preserved
 loop-k-preserved c =
     let a = c.args in
     let s = a.s.now in
-    let p = c.part_of-part.ensures in
     let y = 8 * c.loop-k.k in
     let pre = c.requires in
     let size = s.averages + s.residuals in
     let among : y + 8 ≤ a.lines = omega arith in
-    let e : y + 8 - y ≡ 8 = omega arith in
     let n : 8 * (c.loop-k.k + 1) ≡ y + 8 = omega arith in
     rw (rows_span y 8 size, n)
     (down_more a.lines size _ a.out.now (uncut_length (squeeze_of true a.lines s)) pre.2 c.loop-k.out _ y 8 among
-    (rw (p.averages, p.residuals, p.avg, p.res, p.next, p.prev, rows_span y 8 s.averages, rows_span y 8 s.residuals, rows_span y 8 size, e) at c.unsqueeze_eight_rows.ensures
+    (rw (part_strip a.lines y 8 c.part_of-part.ensures, rows_span y 8 size) at c.unsqueeze_eight_rows.ensures
     ∙ strip_into a.lines s.averages s.residuals s.avg.now s.res.now s.next.now s.prev.now pre.0 y 8 among pre.1
     _ (part_length (y * size) (8 * size) c.loop-k.out (omega (arith, rows_room y 8 a.lines size among))))
     c.loop-k.invariant)

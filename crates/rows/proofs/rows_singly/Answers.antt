@@ -1,11 +1,13 @@
 -- `rows_singly` meets its contract: a turn writes a strip of one row (proofs/Strips.antt). Assumes nothing.
-use mathlib.Core.Path.{◌≡◌, ◌∙◌}
+use mathlib.Core.Path.{ap, ◌∙◌}
 use mathlib.Core.Bool.{true}
-use Prim.Native.Nat.{◌+◌, ◌-◌, ◌≤◌}
+use Prim.Native.Nat.{◌+◌, ◌≤◌}
 use native.Mathlib.Omega.{arith}
+use Rattle.line.specs.Uncut.{Squeeze, uncut}
 use Rattle.line.specs.Squeezed.{squeeze_of}
 use Rattle.line.proofs.Outputs.{uncut_length}
 use Rattle.rows.proofs.Strips.{rows_span, row_length, strip_fitting, strip_uncut}
+use Rattle.rows.proofs.Parts.{row_strip}
 use Rattle.rows.proofs.Bands.{rest_more, rest_all}
 use Rattle.rows.proofs.rows_singly.Goals as goal
 
@@ -13,35 +15,30 @@ pub one_row-requires : goal.one_row-requires
 one_row-requires c =
     let a = c.args in
     let s = a.s.now in
-    let p = c.part_of-part.ensures in
     let y = c.loop-y.y in
     let pre = c.requires in
     let size = s.averages + s.residuals in
     let among : y + 1 ≤ a.lines = omega arith in
-    let e : y + 1 - y ≡ 1 = omega arith in
-    let la = row_length y a.lines s.averages s.avg.now among pre.0.avg_length in
-    let lr = row_length y a.lines s.residuals s.res.now among pre.0.res_length in
-    rw (p.avg, p.res, p.next, p.prev, rows_span y 1 s.averages, rows_span y 1 s.residuals, rows_span y 1 size, e, la, lr) (
-      strip_fitting a.lines s.averages s.residuals s.avg.now s.res.now s.next.now s.prev.now pre.0 y 1 among,
-      pre.1,
-      row_length y a.lines size c.loop-y.out among c.loop-y.invariant.long,
+    let e = row_strip a.lines y pre.0 among c.part_of-part.ensures in
+    let la = ap (λ (q : Squeeze). q.averages) e in
+    let lr = ap (λ (q : Squeeze). q.residuals) e in (
+      rw e (strip_fitting a.lines s.averages s.residuals s.avg.now s.res.now s.next.now s.prev.now pre.0 y 1 among),
+      rw la pre.1,
+      rw (la, lr, rows_span y 1 size) (row_length y a.lines size c.loop-y.out among c.loop-y.invariant.long),
     )
 
 pub loop-y-preserved : goal.loop-y-preserved
 loop-y-preserved c =
     let a = c.args in
     let s = a.s.now in
-    let p = c.part_of-part.ensures in
     let y = c.loop-y.y in
     let pre = c.requires in
     let size = s.averages + s.residuals in
     let among : y + 1 ≤ a.lines = omega arith in
-    let e : y + 1 - y ≡ 1 = omega arith in
-    let la = row_length y a.lines s.averages s.avg.now among pre.0.avg_length in
-    let lr = row_length y a.lines s.residuals s.res.now among pre.0.res_length in
     rw (rows_span y 1 size)
     (rest_more a.lines size _ a.out.now (uncut_length (squeeze_of true a.lines s)) pre.2 a.from pre.3 c.loop-y.out _ y 1 c.loop-y.auto.y among
-    (rw (p.avg, p.res, p.next, p.prev, rows_span y 1 s.averages, rows_span y 1 s.residuals, e, la, lr) at c.one_row.ensures
+    (c.one_row.ensures
+    ∙ ap uncut (row_strip a.lines y pre.0 among c.part_of-part.ensures)
     ∙ strip_uncut a.lines s.averages s.residuals s.avg.now s.res.now s.next.now s.prev.now pre.0 y 1 among pre.1)
     c.loop-y.invariant)
 

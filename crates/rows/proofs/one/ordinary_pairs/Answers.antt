@@ -18,13 +18,13 @@ loop-i-preserved c =
     let a = c.args in
     let i = c.loop-i.i in
     let l = c.loop-i.invariant.0.long in
-    let b1 = back32 (get_or a.avg.now i (pos 0)) (search rules) in
-    let b2 = back32 (get_or a.res.now i (pos 0)) (search rules) in
-    let b3 = back32 (get_or a.avg.now (i + 1) (pos 0)) (search rules) in
+    let b1 = back32 (get_or a.s.now.avg.now i (pos 0)) (search rules) in
+    let b2 = back32 (get_or a.s.now.res.now i (pos 0)) (search rules) in
+    let b3 = back32 (get_or a.s.now.avg.now (i + 1) (pos 0)) (search rules) in
     let z : 0 + i ≡ i = omega arith in (
       join c.requires.0 (omega arith) c.loop-i.invariant.0
           (rw z
-          (row_ordinary (length a.avg.now) (length a.res.now) a.avg.now a.res.now c.loop-i.out (get_or a.avg.now (i + 1) (pos 0)) _ _ _ i
+          (row_ordinary (length a.s.now.avg.now) (length a.s.now.res.now) a.s.now.avg.now a.s.now.res.now c.loop-i.out (get_or a.s.now.avg.now (i + 1) (pos 0)) _ _ _ i
           (omega arith) c.requires.0 (omega arith)
           (back32 pair.result.first (search rules) ∙ rw (b1, b2, b3) at pair.ensures.0)
           (back32 pair.result.second (search rules) ∙ rw (b1, b2, b3) at pair.ensures.1)

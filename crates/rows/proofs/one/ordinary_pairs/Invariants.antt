@@ -8,7 +8,7 @@ use Rattle.rows.proofs.one.ordinary_pairs.Given as goal
 
 abbrev pub invariant-loop-i : goal.invariant-loop-i
 invariant-loop-i l =
-    Ordinary (lines_of true 1 (length l.avg) (length l.res) l.avg l.res) (λ _. l.initial.before) (λ _. l.before) l.initial.out l.out 0 l.i × (l.i ≤ l.to)
+    Ordinary (lines_of true 1 (length l.s.avg.now) (length l.s.res.now) l.s.avg.now l.s.res.now) (λ _. l.initial.before) (λ _. l.before) l.initial.out l.out 0 l.i × (l.i ≤ l.to)
 
 abbrev pub decreases-loop-i : goal.decreases-loop-i
 decreases-loop-i l = l.to - l.i
