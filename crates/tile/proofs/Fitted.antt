@@ -149,14 +149,6 @@ module _ (c : Call) (f : sizes_fit c ≡ true) (g : slices_fit c ≡ true) where
       lengths.2 ∙ area_by h c.out_sides ∙ rw (fit.out_across, fit.sum)
 
 -- ---- the tests of the code, in their order
--- areas that are allowed, whose products fit therefore
-pub areas_small : {p q s : Bool} (a r o : Sides) → p ≡ area_allowed a → q ≡ area_allowed r → s ≡ area_allowed o → p && (q && s) ≡ true
-    → (area a ≤ max_samples) × (area r ≤ max_samples) × (area o ≤ max_samples)
-areas_small a r o ea er eo t =
-    let m = and_true _ _ t in
-    let n = and_true _ _ m.1 in
-    (area_small a (sym ea ∙ m.0), area_small r (sym er ∙ n.0), area_small o (sym eo ∙ n.1))
-
 module _ (c : Call) {p q s : Bool}
     (ea : p ≡ area_allowed c.avg_sides) (er : q ≡ area_allowed c.res_sides) (eo : s ≡ area_allowed c.out_sides) where
   areas : (b : Bool) → p && (q && s) ≡ b → areas_allowed c ≡ b

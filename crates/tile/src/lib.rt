@@ -43,6 +43,7 @@ impl Sides {
         self.along(!horizontal)
     }
 
+    #[tactic(auto, unfolding(crate::specs::Call::sides_small))]
     fn is_small(self) -> bool
         ensures { result ≡ Call.sides_small self }
     {
@@ -97,6 +98,7 @@ fn unsqueeze<'a>(
 // A tile of averages, residuals and samples of output, each with the sides of its
 // rectangle. `next` and `prev` are the next average line and the previous output
 // line, or empty. Sides and slices come apart, as the C function has them.
+#[tactic(auto, using(crate::proofs::Fitted::area_small))]
 pub fn squeeze_tile<'a>(
     horizontal: bool,
     avgs: Sides,

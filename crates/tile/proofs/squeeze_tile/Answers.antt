@@ -1,8 +1,7 @@
 -- `squeeze_tile` meets its contract: one return for each question in its order, and the squeeze of a call that is accepted (proofs/Fitted.antt).
 -- Assumes nothing.
-use native.Mathlib.Omega.{arith}
 use Rattle.tile.specs.Call.{slices_fit, squeeze_of}
-use Rattle.tile.proofs.Fitted.{areas_small, areas_refused, sizes_refused, slices_refused, accepted_made}
+use Rattle.tile.proofs.Fitted.{areas_refused, sizes_refused, slices_refused, accepted_made}
 use Rattle.tile.proofs.squeeze_tile.Goals as goal
 
 pub returns-then-not-area_allowed : goal.returns-then-not-area_allowed
@@ -13,18 +12,6 @@ pub returns-then-not-sides_fit-outer_fits : goal.returns-then-not-sides_fit-oute
 returns-then-not-sides_fit-outer_fits c =
     sizes_refused _ c.area_allowed.ensures c.area_allowed-2.ensures c.area_allowed-3.ensures c.if-not-area_allowed.false
     c.across-crossing.ensures c.sides_fit.ensures c.outer_fits.ensures c.outer_fits-2.ensures c.if-not-sides_fit-outer_fits.true
-
-pub overflow_mul-avgs : goal.overflow_mul-avgs
-overflow_mul-avgs c =
-    omega (arith, (areas_small _ _ _ c.area_allowed.ensures c.area_allowed-2.ensures c.area_allowed-3.ensures c.if-not-area_allowed.false).0)
-
-pub overflow_mul-ress : goal.overflow_mul-ress
-overflow_mul-ress c =
-    omega (arith, (areas_small _ _ _ c.area_allowed.ensures c.area_allowed-2.ensures c.area_allowed-3.ensures c.if-not-area_allowed.false).1)
-
-pub overflow_mul-outs : goal.overflow_mul-outs
-overflow_mul-outs c =
-    omega (arith, (areas_small _ _ _ c.area_allowed.ensures c.area_allowed-2.ensures c.area_allowed-3.ensures c.if-not-area_allowed.false).2)
 
 pub returns-then-not-avg-avgs : goal.returns-then-not-avg-avgs
 unfolding slices_fit
