@@ -19,6 +19,7 @@ pub extern "C" fn probe_add(a: i32, b: i32) -> i32
 }
 
 // `out` holds two samples: first and second.
+#[tactic(auto, using(crate::proofs::Both::kept), unfolding(crate::specs::Probe::unsqueezed))]
 #[unsafe(no_mangle)]
 pub extern "C" fn probe_unsqueeze(avg: i32, res: i32, next: i32, prev: i32, out: &mut [i32])
     ensures { out.new ≡ Probe.unsqueezed avg res next prev out.old }
@@ -32,6 +33,7 @@ pub extern "C" fn probe_unsqueeze(avg: i32, res: i32, next: i32, prev: i32, out:
 }
 
 // `out` holds two samples: average and residual.
+#[tactic(auto, using(crate::proofs::Both::kept), unfolding(crate::specs::Probe::squeezed))]
 #[unsafe(no_mangle)]
 pub extern "C" fn probe_squeeze(first: i32, second: i32, next: i32, prev: i32, out: &mut [i32])
     ensures { out.new ≡ Probe.squeezed first second next prev out.old }
@@ -58,19 +60,16 @@ fn load_block(s: &[i32], at: usize) -> [i32; 8]
 }
 
 // `b` over the eight samples from `at` on; nothing where `s` has fewer.
+#[tactic(auto, unfolding(crate::specs::Probe::with_block))]
 fn store_block(s: &mut [i32], at: usize, b: [i32; 8])
     ensures { s.new ≡ Probe.with_block s.old at b }
 {
-    if s.len() < at {
-        return;
-    }
-    if s.len() - at < 8 {
-        return;
-    }
-    // Not `copy_from_slice`: by bench/pair.sh a block takes 194 instructions with it,
-    // 1.21 times plain Rust's, and so 180, 1.12 times.
-    for i in 0..8 {
-        s[at + i] = b[i];
+    if at <= s.len() && 8 <= s.len() - at {
+        // Not `copy_from_slice`: by bench/pair.sh a block takes 194 instructions with it,
+        // 1.21 times plain Rust's, and so 180, 1.12 times.
+        for i in 0..8 {
+            s[at + i] = b[i];
+        }
     }
 }
 

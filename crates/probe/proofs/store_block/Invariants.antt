@@ -1,4 +1,4 @@
--- `store_block` meets its contract: nothing where the slice is too short, else eight turns of a copy (proofs/Copies.antt). Assumes nothing.
+-- `store_block` meets its contract: eight turns of a copy where the slice is long enough (proofs/Copies.antt). Assumes nothing.
 use mathlib.Core.Path.{◌≡◌}
 use Prim.Native.Nat.{◌+◌, ◌-◌, ◌≤◌}
 use lib.ListN.{length}
