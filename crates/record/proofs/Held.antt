@@ -3,11 +3,10 @@
 use mathlib.Core.Path.{◌≡◌, refl, sym, ap, ◌∙◌}
 use mathlib.Core.Bool.{Bool, true, false, cond}
 use mathlib.Core.List.{List, [], ◌∷◌, ◌++◌}
-use Prim.Native.Nat.{ℕ, zero, suc, ◌-◌, ◌<◌, ◌≤◌}
+use Prim.Native.Nat.{ℕ, zero, suc, ◌<◌, ◌≤◌}
 use native.Mathlib.Omega.{arith}
 use lib.Dec.{eqb}
-use lib.ListN.{length, take, drop, length-drop}
-use lib.Seq.{take_all}
+use lib.ListN.{length, drop, length-drop}
 use borrow.Author.Tests.{eq-eqb, ne_eqb, le-leb, lt-leb, lt-ltb}
 use Rattle.numbers.specs.Numbers.{refused_count}
 use Rattle.channel.specs.declared.Channel.{Channel}
@@ -88,15 +87,12 @@ module _ (version : ℕ) (bytes : List ℕ) (list : ChannelList) (steps : Steps)
     pub form_refused : (answer ≡ 0 → ⊥) → fields_of version bytes ≡ refused answer
     form_refused z = sym more.2 ∙ turn more.0 ∙ rw (ne_eqb answer 0 z)
 
-    module _ (z : answer ≡ 0) (next : List ℕ) (en : next ≡ take (length rest - field_size rest) (drop (field_size rest) rest)) where
+    module _ (z : answer ≡ 0) (next : List ℕ) (en : next ≡ drop (field_size rest) rest) where
       accepted : judge_field rest (length w.cs) (all is_meta w.cs) (length w.ss) ≡ 0
       accepted = sym judged ∙ z
 
-      tail : next ≡ drop (field_size rest) rest
-      tail = en ∙ take_all (length rest - field_size rest) (drop (field_size rest) rest) (omega (arith, length-drop (field_size rest) rest))
-
       pub smaller : length next < length rest
-      smaller = omega (arith, (judged_inside rest _ _ _ accepted).1, length-drop (field_size rest) rest, ap length tail)
+      smaller = omega (arith, (judged_inside rest _ _ _ accepted).1, length-drop (field_size rest) rest, ap length en)
 
       pub held_step_lem : (l : ChannelList) (s : Steps) (m : Bool) → is_step rest ≡ true → s ≡ added steps (field_step rest) → l ≡ list → m ≡ metas
           → Held version bytes l s m next
@@ -112,7 +108,7 @@ module _ (version : ℕ) (bytes : List ℕ) (list : ChannelList) (steps : Steps)
             steps_are = es ∙ rw (lt-ltb steps.count max_steps (omega (arith, a.0, steps_count)), w.steps_are) (pushed_packed w.ss (field_step rest) a.0);
             metas_are = em ∙ w.metas_are;
             enough = omega (arith, w.enough, more.1, smaller);
-            so = rw tail (sym (turn more.0 ∙ rw (eq-eqb answer 0 z, k)) ∙ more.2);
+            so = rw en (sym (turn more.0 ∙ rw (eq-eqb answer 0 z, k)) ∙ more.2);
           }
 
       pub few : is_step rest ≡ false → list.count < max_channels
@@ -132,5 +128,5 @@ module _ (version : ℕ) (bytes : List ℕ) (list : ChannelList) (steps : Steps)
             steps_are = es ∙ w.steps_are;
             metas_are = em ∙ rw ec (metas_pushed w.cs (field_channel rest) a.1);
             enough = omega (arith, w.enough, more.1, smaller);
-            so = rw tail (sym (turn more.0 ∙ rw (eq-eqb answer 0 z, k)) ∙ more.2);
+            so = rw en (sym (turn more.0 ∙ rw (eq-eqb answer 0 z, k)) ∙ more.2);
           }

@@ -1,6 +1,7 @@
 pub mod Fields
 pub mod Flags
 pub mod Pushed
+pub mod Heads
 pub mod Held
 pub mod Joined
 pub mod Placed

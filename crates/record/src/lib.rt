@@ -3,13 +3,14 @@
 // plan; the writer judges the plan and the slice's length.
 #![tactic(auto)]
 
-ghost use Rattle.std.specs.Prelude.{◌≡◌, ◌+◌, ◌≤◌, length};
+ghost use Rattle.std.specs.Prelude.{◌≡◌, ◌+◌, ◌≤◌, length, drop, IfOk};
 ghost use Rattle.numbers.specs.Numbers.{answer_of};
 ghost use Rattle.list.specs.Lists.{max_channels, max_steps, channels};
 ghost use Rattle.plan.specs.Steps as StepsSpec;
 ghost use Rattle.record.specs.Inside.{ChannelInside};
 ghost use Rattle.record.specs.Bytes as Bytes;
 ghost use Rattle.record.specs.Sides as Sides;
+ghost use Rattle.record.specs.Heads as Heads;
 ghost use Rattle.record.specs.Reading as Reading;
 ghost use Rattle.record.specs.Records as Spec;
 ghost use Rattle.record.specs.Told as Told;
@@ -19,80 +20,71 @@ use list::{ChannelList, Step};
 use numbers::Refusal;
 use plan::{Form, Steps};
 
-const CHANNEL_TAG: u8 = 1;
+// What stands before a field's body: the tag and the length of the body.
+#[derive(Clone, Copy, PartialEq, Eq)]
+struct Head {
+    tag: u8,
+    size: u16,
+}
 
-const CHANNEL_LENGTH: u16 = 6;
+const HEAD_LENGTH: usize = 3;
 
-// A channel with a side above 65,535, a strip, has a tag of its own.
-const STRIP_TAG: u8 = 3;
+impl Head {
+    const CHANNEL: Head = Head { tag: 1, size: 6 };
 
-const STRIP_LENGTH: u16 = 10;
+    // A channel with a side above 65,535, a strip, has a tag of its own.
+    const STRIP: Head = Head { tag: 3, size: 10 };
 
+    const STEP: Head = Head { tag: 2, size: 5 };
+
+    // The version, where it is not the standard's, is the first field.
+    const VERSION: Head = Head { tag: 4, size: 1 };
+
+    // The head that bytes begin with, where it and the body lie inside them.
+    fn of(bytes: &[u8]) -> Option<Head>
+        ensures { result ≡ Heads.head_inside bytes.now }
+    {
+        let [tag, low, high] = *bytes.first_chunk::<HEAD_LENGTH>()?;
+        let head = Head {
+            tag,
+            size: u16::from_le_bytes([low, high]),
+        };
+        (head.field_size() <= bytes.len()).then_some(head)
+    }
+
+    // The bytes of the head and the body.
+    fn field_size(self) -> usize
+        ensures { result ≡ Bytes.head_length + self.size }
+    {
+        HEAD_LENGTH + self.size as usize
+    }
+
+    fn to_bytes(self) -> [u8; HEAD_LENGTH]
+        ensures { result ≡ Sides.head self.tag self.size }
+    {
+        let [low, high] = self.size.to_le_bytes();
+        [self.tag, low, high]
+    }
+}
+
+// A side that tag 1 can hold.
 const MAX_SHORT_SIDE: u32 = 65_535;
-
-const STEP_TAG: u8 = 2;
-
-const STEP_LENGTH: u16 = 5;
-
-// The version, where it is not the standard's, is the first field.
-const VERSION_TAG: u8 = 4;
-
-const VERSION_LENGTH: u16 = 1;
 
 const VERSION_VALUE: u8 = Steps::HOUSE_VERSION as u8;
 
-// The bytes of a field before its body.
-const HEAD_LENGTH: usize = 3;
+const CHANNEL_SIZE: usize = HEAD_LENGTH + Head::CHANNEL.size as usize;
 
-const CHANNEL_SIZE: usize = HEAD_LENGTH + CHANNEL_LENGTH as usize;
+const STRIP_SIZE: usize = HEAD_LENGTH + Head::STRIP.size as usize;
 
-const STRIP_SIZE: usize = HEAD_LENGTH + STRIP_LENGTH as usize;
+const STEP_SIZE: usize = HEAD_LENGTH + Head::STEP.size as usize;
 
-const STEP_SIZE: usize = HEAD_LENGTH + STEP_LENGTH as usize;
+const VERSION_SIZE: usize = HEAD_LENGTH + Head::VERSION.size as usize;
 
-const VERSION_SIZE: usize = HEAD_LENGTH + VERSION_LENGTH as usize;
-
-// The length that a field states.
-fn stated_length(bytes: &[u8]) -> u16
-    requires { Bytes.head_length ≤ length bytes.now }
-    ensures { result ≡ Reading.length_of bytes.now }
-{
-    u16::from_le_bytes([bytes[1], bytes[2]])
-}
-
-// Whether a field's head and its stated length lie inside the bytes.
-fn field_inside(bytes: &[u8]) -> bool
-    ensures { result ≡ Reading.field_inside bytes.now }
-{
-    if bytes.len() < HEAD_LENGTH {
-        return false;
-    }
-    HEAD_LENGTH + stated_length(bytes) as usize <= bytes.len()
-}
-
-// A tag and its own length.
-fn has_head(tag: u8, size: u16, bytes: &[u8]) -> bool
-    requires { Bytes.head_length ≤ length bytes.now }
-    ensures { result ≡ Reading.has_head tag size bytes.now }
-{
-    (bytes[0] == tag) & (stated_length(bytes) == size)
-}
-
-// Whether a channel's field stands here, after so many steps.
-fn is_channel(bytes: &[u8], steps: usize) -> bool
-    requires { Bytes.head_length ≤ length bytes.now }
-    ensures { result ≡ Reading.is_channel bytes.now steps }
-{
-    (has_head(CHANNEL_TAG, CHANNEL_LENGTH, bytes) | has_head(STRIP_TAG, STRIP_LENGTH, bytes))
-        & (steps == 0)
-}
-
-// Whether a step's field stands here.
-fn is_step(bytes: &[u8]) -> bool
-    requires { Bytes.head_length ≤ length bytes.now }
-    ensures { result ≡ Reading.is_step bytes.now }
-{
-    has_head(STEP_TAG, STEP_LENGTH, bytes)
+// What a field holds.
+#[derive(Clone, Copy)]
+enum Field {
+    Channel(Channel),
+    Step(Step),
 }
 
 // The bytes of a side: four in a strip's field, two in another channel's.
@@ -119,7 +111,7 @@ fn field_channel(bytes: &[u8]) -> Channel
     requires { ChannelInside bytes.now }
     ensures { result ≡ Reading.field_channel bytes.now }
 {
-    let strip = bytes[0] == STRIP_TAG;
+    let strip = bytes[0] == Head::STRIP.tag;
     let height = HEAD_LENGTH + side_size(strip);
     let shifts = height + side_size(strip);
     Channel {
@@ -137,66 +129,68 @@ fn is_strip(c: Channel) -> bool
     (MAX_SHORT_SIDE < c.width) | (MAX_SHORT_SIDE < c.height)
 }
 
-// The number, the shifts and the sides of a channel after so many channels, all of
-// them meta or not.
-fn judge_channel(bytes: &[u8], channels: usize, metas: bool) -> Result<(), Refusal>
+// The channel of a field after so many channels, all of them meta or not.
+fn read_channel(bytes: &[u8], channels: usize, metas: bool) -> Result<Channel, Refusal>
     requires { ChannelInside bytes.now }
-    ensures { answer_of result ≡ Reading.judge_channel_field bytes.now channels metas }
+    ensures judged { answer_of result ≡ Reading.judge_channel_field bytes.now channels metas }
+    ensures channel { IfOk result (λ c. c ≡ Reading.field_channel bytes.now) }
 {
     if ChannelList::MAX_CHANNELS <= channels {
         return Err(Refusal::Count);
     }
     let c = field_channel(bytes);
     let allowed = c.is_allowed() & (!c.is_meta() | metas);
-    if !(allowed & ((bytes[0] != STRIP_TAG) | is_strip(c))) {
+    if !(allowed & ((bytes[0] != Head::STRIP.tag) | is_strip(c))) {
         return Err(Refusal::Form);
     }
-    Ok(())
+    Ok(c)
 }
 
-// The number and the flags of a step after so many steps.
-fn judge_step(bytes: &[u8], steps: usize) -> Result<(), Refusal>
+// The step of a field after so many steps.
+fn read_step(bytes: &[u8], steps: usize) -> Result<Step, Refusal>
     requires { Bytes.step_size ≤ length bytes.now }
-    ensures { answer_of result ≡ Reading.judge_step_field bytes.now steps }
+    ensures judged { answer_of result ≡ Reading.judge_step_field bytes.now steps }
+    ensures step { IfOk result (λ s. s ≡ Reading.field_step bytes.now) }
 {
     if ChannelList::MAX_STEPS <= steps {
         return Err(Refusal::Count);
     }
-    if Steps::ALL_FLAGS < bytes[3] {
+    let flags = bytes[3];
+    if Steps::ALL_FLAGS < flags {
         return Err(Refusal::Form);
     }
-    Ok(())
-}
-
-// The field that `bytes` begin with, after so many channels, all of them meta or
-// not, and so many steps.
-fn judge_field(bytes: &[u8], channels: usize, metas: bool, steps: usize) -> Result<(), Refusal>
-    ensures { answer_of result ≡ Reading.judge_field bytes.now channels metas steps }
-{
-    if !field_inside(bytes) {
-        return Err(Refusal::Outside);
-    }
-    if is_step(bytes) {
-        return judge_step(bytes, steps);
-    }
-    if is_channel(bytes, steps) {
-        return judge_channel(bytes, channels, metas);
-    }
-    Err(Refusal::Field)
-}
-
-// A field's step.
-fn field_step(bytes: &[u8]) -> Step
-    requires { Bytes.step_size ≤ length bytes.now }
-    ensures { result ≡ Reading.field_step bytes.now }
-{
-    let flags = bytes[3];
-    Step {
+    let step = Step {
         horizontal: flags % 2 == 1,
         inplace: flags / 2 % 2 == 1,
         begin: u16::from_le_bytes([bytes[4], bytes[5]]),
         number: u16::from_le_bytes([bytes[6], bytes[7]]),
-    }
+    };
+    Ok(step)
+}
+
+// The field that bytes begin with, after so many channels, all of them meta or not,
+// and so many steps, and the bytes behind it.
+fn read_field(
+    bytes: &[u8],
+    channels: usize,
+    metas: bool,
+    steps: usize,
+) -> Result<(Field, &[u8]), Refusal>
+    ensures judged { answer_of result ≡ Reading.judge_field bytes.now channels metas steps }
+    ensures field { IfOk result (λ r. r.0 ≡ Heads.field_of bytes.now) }
+    ensures rest { IfOk result (λ r. r.1.now ≡ drop (Reading.field_size bytes.now) bytes.now) }
+{
+    let Some(head) = Head::of(bytes) else {
+        return Err(Refusal::Outside);
+    };
+    let field = if head == Head::STEP {
+        Field::Step(read_step(bytes, steps)?)
+    } else if ((head == Head::CHANNEL) | (head == Head::STRIP)) & (steps == 0) {
+        Field::Channel(read_channel(bytes, channels, metas)?)
+    } else {
+        return Err(Refusal::Field);
+    };
+    Ok((field, &bytes[head.field_size()..]))
 }
 
 // What the fields of a record with the given version hold, each judged before the
@@ -210,16 +204,16 @@ fn read_fields(version: u32, bytes: &[u8]) -> Result<Form, Refusal>
     let mut metas = true;
     let mut rest = bytes;
     while !rest.is_empty() {
-        judge_field(rest, list.count, metas, steps.count)?;
-        if is_step(rest) {
-            steps.push(field_step(rest));
-        } else {
-            let c = field_channel(rest);
-            let k = list.count;
-            metas = c.is_meta();
-            list.push(c, k as u8);
+        let (field, after) = read_field(rest, list.count, metas, steps.count)?;
+        match field {
+            Field::Step(step) => steps.push(step),
+            Field::Channel(c) => {
+                let k = list.count;
+                metas = c.is_meta();
+                list.push(c, k as u8);
+            }
         }
-        rest = &rest[HEAD_LENGTH + stated_length(rest) as usize..];
+        rest = after;
     }
     if list.count == 0 {
         return Err(Refusal::Count);
@@ -236,16 +230,15 @@ fn read_fields(version: u32, bytes: &[u8]) -> Result<Form, Refusal>
 fn has_version_tag(bytes: &[u8]) -> bool
     ensures { result ≡ Reading.has_version_tag bytes.now }
 {
-    bytes.first() == Some(&VERSION_TAG)
+    bytes.first() == Some(&Head::VERSION.tag)
 }
 
 // The version's field.
 fn judge_version(bytes: &[u8]) -> Result<(), Refusal>
     ensures { answer_of result ≡ Reading.judge_version_field bytes.now }
 {
-    if !field_inside(bytes) {
-        Err(Refusal::Outside)
-    } else if !has_head(VERSION_TAG, VERSION_LENGTH, bytes) {
+    let head = Head::of(bytes).ok_or(Refusal::Outside)?;
+    if head != Head::VERSION {
         Err(Refusal::Field)
     } else if bytes[HEAD_LENGTH] != VERSION_VALUE {
         Err(Refusal::Form)
@@ -274,19 +267,11 @@ pub fn read_record(bytes: &[u8]) -> Result<Form, Refusal>
     Ok(read)
 }
 
-// A field's tag and stated length.
-fn head(tag: u8, size: u16) -> [u8; HEAD_LENGTH]
-    ensures { result ≡ Sides.head tag size }
-{
-    let [low, high] = size.to_le_bytes();
-    [tag, low, high]
-}
-
 // Flags, the first channel and the number of channels.
 fn step_field(step: Step) -> [u8; STEP_SIZE]
     ensures { result ≡ Bytes.step_field step }
 {
-    let [tag, low, high] = head(STEP_TAG, STEP_LENGTH);
+    let [tag, low, high] = Head::STEP.to_bytes();
     let [begin, begin_high] = step.begin.to_le_bytes();
     let [number, number_high] = step.number.to_le_bytes();
     let flags = plan::flags_of(step);
@@ -322,15 +307,11 @@ fn put_channel(c: Channel, at: usize, out: &mut [u8]) -> usize
 {
     let strip = is_strip(c);
     let size = side_size(strip);
-    let head = if strip {
-        head(STRIP_TAG, STRIP_LENGTH)
-    } else {
-        head(CHANNEL_TAG, CHANNEL_LENGTH)
-    };
+    let head = if strip { Head::STRIP } else { Head::CHANNEL };
     let width = at + HEAD_LENGTH;
     let height = width + size;
     let shifts = height + size;
-    put_bytes(&head, at, out);
+    put_bytes(&head.to_bytes(), at, out);
     put_bytes(&c.width.to_le_bytes()[..size], width, out);
     put_bytes(&c.height.to_le_bytes()[..size], height, out);
     put_bytes(&[c.hshift, c.vshift], shifts, out);
@@ -377,7 +358,7 @@ fn write_version(version: u32, out: &mut [u8])
     ensures { out.new ≡ Bytes.placed out.old 0 (Bytes.version_field version) }
 {
     if version == Steps::HOUSE_VERSION {
-        let [tag, low, high] = head(VERSION_TAG, VERSION_LENGTH);
+        let [tag, low, high] = Head::VERSION.to_bytes();
         let field = [tag, low, high, VERSION_VALUE];
         put_bytes(&field, 0, out);
     }

@@ -4,4 +4,4 @@ use Rattle.record.proofs.step_field.Goals as goal
 
 pub returns : goal.returns
 unfolding step_field
-returns c = rw (c.head.ensures, c.flags_of-flags.ensures, c.to_le_bytes.ensures, c.to_le_bytes-2.ensures)
+returns c = rw (c.to_bytes.ensures, c.flags_of-flags.ensures, c.to_le_bytes.ensures, c.to_le_bytes-2.ensures)

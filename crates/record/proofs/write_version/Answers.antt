@@ -10,7 +10,7 @@ pub returns-then-version-eq-HOUSE_VERSION : goal.returns-then-version-eq-HOUSE_V
 unfolding version_field
 returns-then-version-eq-HOUSE_VERSION c =
     let e = eq-eqb _ house_version c.if-version-eq-HOUSE_VERSION.true in
-    rw e (c.put_bytes.ensures ∙ rw c.head.ensures (put_placed c.args.out.now 0 _ (rw e at c.requires)))
+    rw e (c.put_bytes.ensures ∙ rw c.to_bytes.ensures (put_placed c.args.out.now 0 _ (rw e at c.requires)))
 
 pub returns-else-version-eq-HOUSE_VERSION : goal.returns-else-version-eq-HOUSE_VERSION
 unfolding version_field
