@@ -2,14 +2,21 @@
 use mathlib.Core.Path.{◌≡◌, refl, sym, ap, ◌∙◌}
 use mathlib.Core.Bool.{Bool, true, false, cond}
 use mathlib.Core.List.{List, [], ◌∷◌, ◌++◌, append-nil, append_assoc}
-use Prim.Native.Nat.{ℕ, ◌*◌, ◌≤◌}
+use Prim.Native.Nat.{ℕ, zero, suc, ◌*◌, ◌≤◌, min}
 use native.Mathlib.Nat.{mul-zero, mul-suc}
 use native.Mathlib.Omega.{arith}
 use lib.Dec.{eqb}
 use lib.ListN.{length, length-append}
+use Rattle.std.specs.List.{sum_by, range_with_len}
+use Rattle.std.proofs.Common.{add-one}
+use Rattle.std.proofs.lemmas.List.Sums.{sum_by-cons}
 use Rattle.channel.specs.declared.Channel.{Channel}
 use Rattle.list.specs.declared.Step.{Step}
-use Rattle.list.specs.Lists.{max_channels, max_steps}
+use Rattle.list.specs.declared.ChannelList.{ChannelList}
+use Rattle.list.specs.Tables.{table}
+use Rattle.list.specs.Lists as Lists
+use Rattle.list.specs.Lists.{max_channels, max_steps, channel_at, channels}
+use Rattle.list.proofs.Channels.{channels_length}
 use Rattle.plan.specs.Version.{house_version}
 use Rattle.record.specs.Bytes.{channel_size, strip_size, step_size, version_tag, version_length, version_size, low, high, is_strip, short_field, strip_field, channel_field, step_field, version_field, joined, channel_fields, step_fields, list_fields, record_of, record_room}
 
@@ -50,8 +57,19 @@ module _ {ℓ} {A : Type ℓ} (field : A → List ℕ) where
   joined_snoc [] x = append-nil (field x)
   joined_snoc (y ∷ xs) x = ap (λ (l : List ℕ). field y ++ l) (joined_snoc xs x) ∙ sym (append_assoc (field y) (joined field xs) (field x))
 
+  -- the sum of the lengths, by the library's words
+  pub joined_sum : (f : ℕ → A) (k n : ℕ) → sum_by (λ j. length (field (f j))) (range_with_len k n) ≡ length (joined field (table f k n))
+  joined_sum f k zero = refl
+  joined_sum f k (suc n) =
+      rw (add-one, sum_by-cons (λ j. length (field (f j))) k (range_with_len (suc k) n), joined_sum f (suc k) n) (sym (length-append (field (f k)) (joined field (table f (suc k) n))))
+
 pub channels_most : (cs : List Channel) → length cs ≤ max_channels → length (channel_fields cs) ≤ strip_size * max_channels
 channels_most cs h = omega (arith, (joined_within channel_field channel_size strip_size channel_within cs).1)
+
+pub channels_sum : (l : ChannelList) (n : ℕ) → n ≡ min l.count max_channels
+    → (sum_by (λ k. length (channel_field (channel_at l k))) (range_with_len 0 n) ≡ length (channel_fields (channels l))) × (length (channel_fields (channels l)) ≤ strip_size * max_channels)
+unfolding Lists.channels
+channels_sum l n e = (joined_sum channel_field (channel_at l) 0 n ∙ rw e, channels_most (channels l) (omega (arith, channels_length l)))
 
 pub version_within : (version : ℕ) → length (version_field version) ≤ version_size
 unfolding version_field

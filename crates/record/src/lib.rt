@@ -287,7 +287,9 @@ fn step_field(step: Step) -> [u8; STEP_SIZE]
     ]
 }
 
-// `bytes` over `out` from `at` on where it has room for them, else nothing.
+// `bytes` over `out` from `at` on where it has room for them, else nothing. Not by
+// `get_mut(..)` or `split_at_mut_checked(..)`: of a place that stands in an `Option`
+// no clause says what it leaves in `out`.
 pub fn put_bytes(bytes: &[u8], at: usize, out: &mut [u8])
     ensures { out.new ≡ Bytes.put_bytes out.old at bytes.now }
 {
@@ -334,11 +336,7 @@ fn channels_size(list: &ChannelList) -> usize
     requires { list.now.count ≤ max_channels }
     ensures { result ≡ length (Bytes.channel_fields (channels list.now)) }
 {
-    let mut size = 0;
-    for k in 0..list.count {
-        size += channel_size(list.channel(k));
-    }
-    size
+    (0..list.count).map(|k| channel_size(list.channel(k))).sum()
 }
 
 // The bytes of the version's field, which version 1 has not.
@@ -381,11 +379,9 @@ fn write_steps(steps: &Steps, start: usize, out: &mut [u8])
     requires { (steps.now.count ≤ max_steps) × (start + length (Bytes.step_fields (StepsSpec.steps steps.now)) ≤ length out.old) }
     ensures { out.new ≡ Bytes.placed out.old start (Bytes.step_fields (StepsSpec.steps steps.now)) }
 {
-    let mut at = start;
     for k in 0..steps.count {
         let field = step_field(steps.step(k));
-        put_bytes(&field, at, out);
-        at += STEP_SIZE;
+        put_bytes(&field, start + STEP_SIZE * k, out);
     }
 }
 

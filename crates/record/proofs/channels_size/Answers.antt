@@ -1,39 +1,30 @@
--- `channels_size` meets its contract. The loop's invariant: the fields so far have `size` bytes, and those that are left complete them
--- (proofs/Placed.antt). Assumes nothing.
-use mathlib.Core.Path.{◌≡◌, ap}
-use Prim.Native.Nat.{◌+◌, min}
-use native.Mathlib.Omega.{arith}
-use lib.ListN.{length}
-use Rattle.list.specs.Lists.{max_channels, channel_at, channels}
-use Rattle.list.proofs.Channels.{channels_all, channels_length}
-use Rattle.record.specs.Bytes.{joined, channel_field}
-use Rattle.record.proofs.Joined.{channels_most}
-use Rattle.record.proofs.Placed.{counting_none, counting_all, counting_room, counting_more}
+-- `channels_size` meets its contract: the library's sum of the fields' lengths (proofs/Joined.antt). Assumes nothing.
+use Rattle.std.proofs.Common.{rules, refl, arith, ◌≡◌, ◌∙◌, ◌-◌, length}
+use Rattle.std.specs.List.{range_with_len}
+use Rattle.std.proofs.lemmas.Iterator.{YieldsList-from_range, YieldsList-from_map}
+use Rattle.std.proofs.lemmas.Iterator.Consumers.{YieldsList-at, sum_by_from_yields_List, fits_by_from_yields_list}
+use Rattle.list.specs.Lists.{channel_at}
+use Rattle.record.specs.Bytes.{channel_field}
+use Rattle.record.proofs.Joined.{channels_sum}
 use Rattle.record.proofs.channels_size.Goals as goal
 
-pub loop-k-init : goal.loop-k-init
-loop-k-init c =
+pub sum-requires-clause-fits : goal.sum-requires-clause-fits
+sum-requires-clause-fits c =
     let l = c.args.list.now in
-    let n : l.count ≡ min l.count max_channels = omega (arith, c.requires) in
-    counting_none channel_field (channel_at l) _ _ _ (ap (joined channel_field) (channels_all l l.count n))
-
-pub overflow_add-size : goal.overflow_add-size
-overflow_add-size c =
-    let l = c.args.list.now in
-    omega (
-      arith,
-      c.channel_size-size.ensures,
-      counting_room channel_field (channel_at l) _ _ _ _ _ c.loop-k.invariant c.loop-k-test.true _ (ap channel_field c.channel.ensures),
-      channels_most (channels l) (omega (arith, channels_length l)),
-    )
-
-pub loop-k-preserved : goal.loop-k-preserved
-loop-k-preserved c =
-    counting_more channel_field (channel_at c.args.list.now) _ _ _ _ _ c.loop-k.invariant c.loop-k-test.true _ (ap channel_field c.channel.ensures)
-    _ (ap (λ n. c.loop-k.size + n) c.channel_size-size.ensures)
+    let n = l.count in
+    let z : n - 0 ≡ n = omega arith in
+    let s = channels_sum l n (omega (arith, c.requires)) in
+    fits_by_from_yields_list _ (range_with_len 0 n) c.map.result _
+    (YieldsList-from_map _ (λ k. length (channel_field (channel_at l k)))
+    (YieldsList-at c.map.ensures.source (YieldsList-from_range 0 n n refl z)) c.map.ensures.closure (λ x r q k. search rules))
+    (omega (arith, s.0, s.1))
 
 pub returns : goal.returns
 returns c =
     let l = c.args.list.now in
-    let w = c.loop-k.invariant in
-    omega (arith, w.at_is, ap length (counting_all channel_field (channel_at l) _ _ _ _ _ w c.loop-k-test.false))
+    let n = l.count in
+    let z : n - 0 ≡ n = omega arith in
+    sum_by_from_yields_List _ (range_with_len 0 n) c.map.result _ c.sum.ensures.ran
+    (YieldsList-from_map _ (λ k. length (channel_field (channel_at l k)))
+    (YieldsList-at c.map.ensures.source (YieldsList-from_range 0 n n refl z)) c.map.ensures.closure (λ x r q k. search rules))
+    ∙ (channels_sum l n (omega (arith, c.requires))).0

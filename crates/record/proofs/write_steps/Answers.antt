@@ -1,7 +1,7 @@
 -- `write_steps` meets its contract. The loop's invariant: the fields so far are in the slice, and those that are left complete them
 -- (proofs/Placed.antt). Assumes nothing.
 use mathlib.Core.Path.{◌≡◌, ap, ◌∙◌}
-use Prim.Native.Nat.{min}
+use Prim.Native.Nat.{◌+◌, min}
 use native.Mathlib.Omega.{arith}
 use borrow.Author.Rules.{rules}
 use lib.ListN.{length}
@@ -15,21 +15,16 @@ pub loop-k-init : goal.loop-k-init
 loop-k-init c =
     let g = c.args in
     let n : g.steps.now.count ≡ min g.steps.now.count max_steps = omega (arith, c.requires.0) in
-    putting_none step_field (step_at g.steps.now) _ _ _ _ (omega (arith, c.requires.1)) (ap (joined step_field) (steps_all g.steps.now g.steps.now.count n))
-
-pub overflow_add-at : goal.overflow_add-at
-overflow_add-at c =
-    let f = c.step_field-field.ensures ∙ ap step_field c.step.ensures in
-    let n : length c.step_field-field.result ≡ step_size = search rules in
-    let m = putting_length step_field (step_at c.args.steps.now) _ _ c.args.start _ c.requires.1 _ _ _ c.loop-k.invariant in
-    omega (arith, putting_room step_field (step_at c.args.steps.now) _ _ c.args.start _ c.requires.1 _ _ _ c.loop-k.invariant c.loop-k-test.true _ f)
+    let z : g.start + 0 ≡ g.start = omega arith in
+    rw z (putting_none step_field (step_at g.steps.now) _ _ _ _ (omega (arith, c.requires.1)) (ap (joined step_field) (steps_all g.steps.now g.steps.now.count n)))
 
 pub loop-k-preserved : goal.loop-k-preserved
 loop-k-preserved c =
     let f = c.step_field-field.ensures ∙ ap step_field c.step.ensures in
+    let n : length c.step_field-field.result ≡ step_size = search rules in
     let room = putting_room step_field (step_at c.args.steps.now) _ _ c.args.start _ c.requires.1 _ _ _ c.loop-k.invariant c.loop-k-test.true _ f in
     putting_more step_field (step_at c.args.steps.now) _ _ c.args.start _ c.requires.1
-    _ _ _ c.loop-k.invariant c.loop-k-test.true _ f _ _ (c.put_bytes.ensures ∙ put_placed _ _ _ room) (search rules)
+    _ _ _ c.loop-k.invariant c.loop-k-test.true _ f _ _ (c.put_bytes.ensures ∙ put_placed _ _ _ room) (omega arith)
 
 pub shape_of-out : goal.shape_of-out
 shape_of-out c =
