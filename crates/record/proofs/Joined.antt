@@ -17,6 +17,10 @@ use Rattle.list.specs.Tables.{table}
 use Rattle.list.specs.Lists as Lists
 use Rattle.list.specs.Lists.{max_channels, max_steps, channel_at, channels}
 use Rattle.list.proofs.Channels.{channels_length}
+use Rattle.list.proofs.Tables.{table_length}
+use Rattle.plan.specs.declared.Steps.{Steps}
+use Rattle.plan.specs.Steps as S
+use Rattle.plan.specs.Steps.{step_at, steps}
 use Rattle.plan.specs.Version.{house_version}
 use Rattle.record.specs.Bytes.{channel_size, strip_size, step_size, version_tag, version_length, version_size, low, high, is_strip, short_field, strip_field, channel_field, step_field, version_field, joined, channel_fields, step_fields, list_fields, record_of, record_room}
 
@@ -66,10 +70,17 @@ module _ {ℓ} {A : Type ℓ} (field : A → List ℕ) where
 pub channels_most : (cs : List Channel) → length cs ≤ max_channels → length (channel_fields cs) ≤ strip_size * max_channels
 channels_most cs h = omega (arith, (joined_within channel_field channel_size strip_size channel_within cs).1)
 
+pub channels_few : (l : ChannelList) → length (channel_fields (channels l)) ≤ strip_size * max_channels
+channels_few l = channels_most (channels l) (omega (arith, channels_length l))
+
 pub channels_sum : (l : ChannelList) (n : ℕ) → n ≡ min l.count max_channels
-    → (sum_by (λ k. length (channel_field (channel_at l k))) (range_with_len 0 n) ≡ length (channel_fields (channels l))) × (length (channel_fields (channels l)) ≤ strip_size * max_channels)
+    → sum_by (λ k. length (channel_field (channel_at l k))) (range_with_len 0 n) ≡ length (channel_fields (channels l))
 unfolding Lists.channels
-channels_sum l n e = (joined_sum channel_field (channel_at l) 0 n ∙ rw e, channels_most (channels l) (omega (arith, channels_length l)))
+channels_sum l n e = joined_sum channel_field (channel_at l) 0 n ∙ rw e
+
+pub steps_size : (s : Steps) (n : ℕ) → n ≡ min s.count max_steps → length (step_fields (steps s)) ≡ step_size * n
+unfolding S.steps
+steps_size s n e = joined_length step_field step_size step_size_lem (steps s) ∙ rw e (ap (λ (k : ℕ). step_size * k) (table_length (step_at s) 0 (min s.count max_steps)))
 
 pub version_within : (version : ℕ) → length (version_field version) ≤ version_size
 unfolding version_field

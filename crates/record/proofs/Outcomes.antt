@@ -11,20 +11,16 @@ use lib.Seq.{take_all}
 use borrow.Author.Tests.{eq-eqb, ne_eqb, le-leb, lt-leb}
 use Rattle.numbers.specs.Numbers.{refused_length}
 use Rattle.list.specs.declared.ChannelList.{ChannelList}
-use Rattle.list.specs.Questions.{Stepped}
-use Rattle.list.specs.Lists.{max_channels, max_steps, channels}
-use Rattle.list.proofs.Tables.{table_length}
-use Rattle.list.proofs.Channels.{channels_length}
+use Rattle.list.specs.Lists.{max_steps, channels}
 use Rattle.plan.specs.declared.Steps.{Steps}
 use Rattle.plan.specs.Version.{standard_version, house_version}
 use Rattle.plan.specs.Steps as S
-use Rattle.plan.specs.Plans.{judge_plan, rewritten}
+use Rattle.plan.specs.Plans.{judge_plan}
 use Rattle.record.specs.Told.{Record}
-use Rattle.record.specs.Bytes.{strip_size, step_size, version_size, step_field, version_field, channel_fields, step_fields, list_fields, record_of, placed}
+use Rattle.record.specs.Bytes.{step_size, version_size, version_field, channel_fields, step_fields, list_fields, record_of, placed}
 use Rattle.record.specs.Reading.{Form, refused, fields_of, has_version_tag, judge_version_field, form_of}
 use Rattle.record.specs.Records.{packed_form, read_answer, read_of, record_for, write_answer, written_of, written_bytes}
-use Rattle.plan.proofs.Judged.{plan_answer, judged_counts}
-use Rattle.record.proofs.Joined.{step_size_lem, joined_length, channels_most}
+use Rattle.record.proofs.Joined.{steps_size}
 use Rattle.record.proofs.Placed.{placed_more}
 use Rattle.record.proofs.Forms.{form_has}
 
@@ -75,16 +71,11 @@ module _ (bytes : List ℕ) (f : Record) (e : f ≡ packed_form (form_of bytes))
     unfolding packed_form read_of
     form_read n = e ∙ rw (← form_judged, n, sym form_answer ∙ z)
 
-    module _ (r : Stepped) (er : r ≡ rewritten f.version f.list f.steps) where
-      plan_judged : r.answer ≡ judge_plan f.version f.list f.steps
-      plan_judged = plan_answer f.version f.list f.steps r er
-
-      pub read_refused_plan : (g : Record) → (r.answer ≡ 0 → ⊥) → g ≡ packed_form (refused r.answer) → g ≡ read_of bytes
+    -- a is the plan's answer
+    module _ (a : ℕ) (ea : a ≡ judge_plan f.version f.list f.steps) where
+      pub read_refused_plan : (g : Record) → (a ≡ 0 → ⊥) → g ≡ packed_form (refused a) → g ≡ read_of bytes
       unfolding packed_form read_of
-      read_refused_plan g n eg = eg ∙ rw (← form_judged, ← plan_judged, ne_eqb r.answer 0 n)
-
-      pub read_accepted : r.answer ≡ 0 → f ≡ read_of bytes
-      read_accepted n = form_read (sym plan_judged ∙ n)
+      read_refused_plan g n eg = eg ∙ rw (← form_judged, ← ea, ne_eqb a 0 n)
 
 -- ---- the writer, by its answer
 module _ (version : ℕ) (l : ChannelList) (s : Steps) (out : List ℕ) where
@@ -108,18 +99,6 @@ module _ (version : ℕ) (l : ChannelList) (s : Steps) (a : ℕ) (ea : a ≡ jud
   write_refused out z = written_nothing version l s out a (rw (← ea, ne_eqb a 0 z)) z
 
   module _ (z : a ≡ 0) where
-    pub counts : (l.count ≤ max_channels) × (s.count ≤ max_steps)
-    counts = judged_counts version l s (sym ea ∙ z)
-
-    pub channels_few : length (channel_fields (channels l)) ≤ strip_size * max_channels
-    channels_few = channels_most (channels l) (omega (arith, channels_length l))
-
-    pub steps_size : length (step_fields (S.steps s)) ≡ step_size * s.count
-    unfolding S.steps
-    steps_size =
-        let n : length (S.steps s) ≡ s.count = omega (arith, table_length (S.step_at s) 0 (min s.count max_steps), counts.1) in
-        joined_length step_field step_size step_size_lem (S.steps s) ∙ ap (λ (k : ℕ). step_size * k) n
-
     module _ (out : List ℕ) where
       write_answer_lem : (b : Bool) → leb (length (record_for version l s)) (length out) ≡ b → write_answer version l s out ≡ cond b 0 refused_length
       unfolding write_answer
@@ -128,28 +107,28 @@ module _ (version : ℕ) (l : ChannelList) (s : Steps) (a : ℕ) (ea : a ≡ jud
       pub write_fits : length (record_for version l s) ≤ length out → write_answer version l s out ≡ 0
       write_fits h = write_answer_lem true (le-leb (length (record_for version l s)) (length out) h)
 
-      -- first is the length of the version's field, size that of the channels'
-      module _ (first size : ℕ) (ef : first ≡ length (version_field version)) (es : size ≡ length (channel_fields (channels l))) where
-        record_size : length (record_for version l s) ≡ first + size + step_size * s.count
+      -- first is the length of the version's field, size that of the channels', n the number of steps
+      module _ (first size n : ℕ) (ef : first ≡ length (version_field version)) (es : size ≡ length (channel_fields (channels l))) (en : n ≡ min s.count max_steps) where
+        record_size : length (record_for version l s) ≡ first + size + step_size * n
         unfolding list_fields record_of
         record_size =
             omega (
               arith,
               length-append (version_field version) (channel_fields (channels l) ++ step_fields (S.steps s)),
               length-append (channel_fields (channels l)) (step_fields (S.steps s)),
-              steps_size,
+              steps_size s n en,
             )
 
-        pub write_short : length out < first + size + step_size * s.count
+        pub write_short : length out < first + size + step_size * n
             → (record { answer = refused_length; size = 0 } ≡ written_of version l s out) × (out ≡ written_bytes version l s out)
         write_short h =
             written_nothing version l s out refused_length (write_answer_lem false (lt-leb (length (record_for version l s)) (length out) (omega (arith, record_size)))) (λ e. omega arith)
 
-        module _ (h : first + size + step_size * s.count ≤ length out) where
+        module _ (h : first + size + step_size * n ≤ length out) where
           fits : write_answer version l s out ≡ 0
           fits = write_fits (omega (arith, record_size))
 
-          pub write_length : record { answer = 0; size = first + size + step_size * s.count } ≡ written_of version l s out
+          pub write_length : record { answer = 0; size = first + size + step_size * n } ≡ written_of version l s out
           write_length = sym (written_length version l s out fits ∙ rw record_size)
 
           -- the version's field, the channels' and the steps', each after the one before

@@ -5,7 +5,7 @@
 
 ghost use Rattle.std.specs.Prelude.{◌≡◌, ◌+◌, ◌≤◌, length, drop, IfOk};
 ghost use Rattle.numbers.specs.Numbers.{answer_of};
-ghost use Rattle.list.specs.Lists.{max_channels, max_steps, channels};
+ghost use Rattle.list.specs.Lists.{channels};
 ghost use Rattle.plan.specs.Steps as StepsSpec;
 ghost use Rattle.record.specs.Inside.{ChannelInside};
 ghost use Rattle.record.specs.Bytes as Bytes;
@@ -159,13 +159,9 @@ fn read_step(bytes: &[u8], steps: usize) -> Result<Step, Refusal>
     if Steps::ALL_FLAGS < flags {
         return Err(Refusal::Form);
     }
-    let step = Step {
-        horizontal: flags % 2 == 1,
-        inplace: flags / 2 % 2 == 1,
-        begin: u16::from_le_bytes([bytes[4], bytes[5]]),
-        number: u16::from_le_bytes([bytes[6], bytes[7]]),
-    };
-    Ok(step)
+    let begin = u16::from_le_bytes([bytes[4], bytes[5]]);
+    let number = u16::from_le_bytes([bytes[6], bytes[7]]);
+    Ok(plan::step_of(flags as u32, begin, number))
 }
 
 // The field that bytes begin with, after so many channels, all of them meta or not,
@@ -333,10 +329,9 @@ fn channel_size(c: Channel) -> usize
 
 // The bytes of the channels' fields.
 fn channels_size(list: &ChannelList) -> usize
-    requires { list.now.count ≤ max_channels }
     ensures { result ≡ length (Bytes.channel_fields (channels list.now)) }
 {
-    (0..list.count).map(|k| channel_size(list.channel(k))).sum()
+    (0..list.len()).map(|k| channel_size(list.channel(k))).sum()
 }
 
 // The bytes of the version's field, which version 1 has not.
@@ -364,11 +359,11 @@ fn write_version(version: u32, out: &mut [u8])
 
 // The channels' fields, from `start` on.
 fn write_channels(list: &ChannelList, start: usize, out: &mut [u8])
-    requires { (list.now.count ≤ max_channels) × (start + length (Bytes.channel_fields (channels list.now)) ≤ length out.old) }
+    requires { start + length (Bytes.channel_fields (channels list.now)) ≤ length out.old }
     ensures { out.new ≡ Bytes.placed out.old start (Bytes.channel_fields (channels list.now)) }
 {
     let mut at = start;
-    for k in 0..list.count {
+    for k in 0..list.len() {
         at = put_channel(list.channel(k), at, out);
     }
 }
@@ -376,10 +371,10 @@ fn write_channels(list: &ChannelList, start: usize, out: &mut [u8])
 // The steps' fields, from `start` on. Not one function with `write_channels`, whose
 // fields differ in length, so that each says where it ends.
 fn write_steps(steps: &Steps, start: usize, out: &mut [u8])
-    requires { (steps.now.count ≤ max_steps) × (start + length (Bytes.step_fields (StepsSpec.steps steps.now)) ≤ length out.old) }
+    requires { start + length (Bytes.step_fields (StepsSpec.steps steps.now)) ≤ length out.old }
     ensures { out.new ≡ Bytes.placed out.old start (Bytes.step_fields (StepsSpec.steps steps.now)) }
 {
-    for k in 0..steps.count {
+    for k in 0..steps.len() {
         let field = step_field(steps.step(k));
         put_bytes(&field, start + STEP_SIZE * k, out);
     }
@@ -392,7 +387,7 @@ pub fn write_record(form: &Form, out: &mut [u8]) -> Result<usize, Refusal>
     form.rewrite()?;
     let first = version_size(form.version);
     let start = first + channels_size(&form.list);
-    let length = start + STEP_SIZE * form.steps.count;
+    let length = start + STEP_SIZE * form.steps.len();
     if out.len() < length {
         return Err(Refusal::Length);
     }
