@@ -1,28 +1,22 @@
 -- A record from numbers is what the record's writer makes of their flat arrays (specs/Laws.antt), and a refusal keeps both slices. Assumes nothing.
-use mathlib.Core.Path.{◌≡◌, refl, sym, ◌∙◌}
+use mathlib.Core.Path.{◌≡◌, refl, sym, ap, ◌∙◌}
 use mathlib.Core.Bool.{Bool, true, false, ◌&&◌, and-true}
-use mathlib.Core.List.{List, [], ◌∷◌}
-use Prim.Native.Nat.{ℕ, ◌<◌, ◌≤◌}
-use native.Mathlib.Omega.{arith}
+use mathlib.Core.List.{List}
+use Prim.Native.Nat.{ℕ, ◌≤◌}
 use lib.Dec.{eqb, leb}
 use lib.ListN.{length}
 use borrow.Author.Tests.{eqb-true, eqb-false, ne_eqb, le-leb}
 use Rattle.numbers.specs.Numbers.{refused_length}
-use Rattle.list.specs.declared.Step.{Step}
-use Rattle.list.specs.Tables.{padded}
-use Rattle.list.specs.Lists.{max_steps}
 use Rattle.list.specs.Questions.{ask}
 use Rattle.list.proofs.Asking.{none_refused}
 use Rattle.plan.specs.Steps as S
 use Rattle.record.specs.Records as W
 use Rattle.record.specs.Records.{record_for, write_answer, written_of}
-use Rattle.record.proofs.Flags.{flags_read}
 use Rattle.record.proofs.Outcomes.{written_length, written_bytes_lem}
-use Rattle.numbered.specs.Numbered.{channel_numbers, step_numbers, groups, whole, flags_at, step_at, steps_of, flags_of, bytes_of, judge_numbers, slices_allowed, answer}
-use Rattle.numbered.specs.Arrays.{list_of, plan_by, plan_of}
+use Rattle.numbered.specs.Numbered.{channel_numbers, step_numbers, whole, steps_of, bytes_of, judge_numbers, slices_allowed, answer}
+use Rattle.numbered.specs.Arrays.{list_of, plan_of}
 use Rattle.numbered.specs.Laws.{AsWritten, AsWrittenLaw, PlanPacked, RefusalKeeps}
-use Rattle.numbered.proofs.Fields.{steps_count, flags_small}
-use Rattle.numbered.proofs.Arrays.{table_same, map_table}
+use Rattle.numbered.proofs.Arrays.{packed_by}
 use Rattle.numbered.proofs.Judged.{map_over, numbers_plan}
 use Rattle.numbered.proofs.Outcomes.{kept, filled, written_answer, bytes_kept, record_by}
 
@@ -85,21 +79,7 @@ module _ (version : ℕ) (ns ms bytes len : List ℕ) (wholes : (whole channel_n
 pub as_written : AsWrittenLaw
 as_written version ns ms bytes len n m room = either version ns ms bytes len (rw (n, m)) room
 
--- ---- the arrays of the steps
-flags_back : (ms : List ℕ) (k : ℕ) → flags_at ms k < 4 → S.flags_of (step_at ms k) ≡ flags_at ms k
-unfolding step_at S.flags_of
-flags_back ms k h = flags_read (0 ∷ 0 ∷ 0 ∷ flags_at ms k ∷ []) h
-
+-- ---- the arrays of the steps, which hold them as they are
 pub plan_packed : PlanPacked
-unfolding plan_by step_at steps_of flags_of S.packed
-plan_packed ms a =
-    let n = groups step_numbers ms in
-    let t = map_table S.flags_of (step_at ms) 0 n ∙ table_same (λ j. S.flags_of (step_at ms j)) (flags_at ms) 0 n (λ j l. flags_back ms j (flags_small ms j (omega arith) a)) in
-    let b = map_table (λ (s : Step). s.begin) (step_at ms) 0 n in
-    let m = map_table (λ (s : Step). s.number) (step_at ms) 0 n in
-    λ i. record {
-      count = sym (steps_count ms) i;
-      flags = padded max_steps (sym t i);
-      begins = padded max_steps (sym b i);
-      numbers = padded max_steps (sym m i);
-    }
+unfolding S.packed
+plan_packed ms a = packed_by (λ n. n) ms a ∙ ap S.packed (map_over (steps_of ms))

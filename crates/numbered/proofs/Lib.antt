@@ -1,9 +1,10 @@
 pub mod Cases
 pub mod Fields
-pub mod Filling
+pub mod Chunks
 pub mod Arrays
 pub mod Holding
 pub mod Judged
+pub mod Formed
 pub mod Outcomes
 pub mod AsWritten
 pub mod ReadBack

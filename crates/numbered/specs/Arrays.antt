@@ -6,13 +6,13 @@ use Rattle.std.specs.Prelude.{Bool, ◌&&◌, List, ℕ, ◌/◌, ◌%◌, min, 
 use Rattle.channel.specs.declared.Channel.{Channel}
 use Rattle.channel.specs.Channel.{meta_shift}
 use Rattle.list.specs.declared.ChannelList.{ChannelList}
-use Rattle.list.specs.Tables.{table, padded}
+use Rattle.list.specs.Tables.{table, padded, map}
 use Rattle.list.specs.Lists as Lists
 use Rattle.list.specs.Lists.{max_steps}
 use Rattle.list.specs.declared.Step.{Step}
 use Rattle.plan.specs.declared.Form.{Form}
 use Rattle.plan.specs.declared.Steps.{Steps}
-use Rattle.numbered.specs.Numbered.{step_numbers, groups, channels_of, flags_at, flags_of, first_at, number_at}
+use Rattle.numbered.specs.Numbered.{step_numbers, groups, channel_at, channels_of, flags_at, flags_of, first_at, number_at}
 
 -- whether a channel's shifts fit their entries
 unfoldable pub shifts_fit : Channel → Bool
@@ -50,6 +50,16 @@ step_by f ms k =
       begin = f (first_at ms k);
       number = f (number_at ms k);
     }
+
+-- groups of numbers, as the code has them: their channels, their steps' flags and their steps, held to 16 bits
+abbrev pub channels_in : List (List ℕ) → List Channel
+channels_in gs = map (λ g. channel_at g 0) gs
+
+abbrev pub flags_in : List (List ℕ) → List ℕ
+flags_in gs = map (λ g. flags_at g 0) gs
+
+abbrev pub steps_in : List (List ℕ) → List Step
+steps_in gs = map (λ g. step_by held g 0) gs
 
 -- what is judged and written of numbers that fit
 abbrev pub form_of : ℕ → List ℕ → List ℕ → Form

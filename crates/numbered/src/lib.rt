@@ -4,10 +4,12 @@
 // never cut.
 #![tactic(auto)]
 
-ghost use Rattle.std.specs.Prelude.{◌≡◌, true, ◌<◌, ◌≤◌, IfOk};
+ghost use Rattle.std.specs.Prelude.{◌≡◌, true, ◌≤◌, length, IfOk};
 ghost use Rattle.numbers.specs.Numbers.{answer_of};
 ghost use Rattle.list.specs.Tables.{all};
+ghost use Rattle.list.specs.Lists as Lists;
 ghost use Rattle.list.specs.Lists.{max_channels, max_steps};
+ghost use Rattle.plan.specs.Steps as StepsSpec;
 ghost use Rattle.plan.specs.Steps.{flags_allowed};
 ghost use Rattle.numbered.specs.Numbered as Spec;
 ghost use Rattle.numbered.specs.Arrays as Arrays;
@@ -23,54 +25,53 @@ pub const CHANNEL_NUMBERS: usize = 4;
 // Flags, first channel and number.
 pub const STEP_NUMBERS: usize = 3;
 
-// Whether a list's entries hold the shifts of channel `k`; they hold any side.
-fn shifts_fit(channels: &[u32], k: usize) -> bool
-    requires { k < Spec.groups Spec.channel_numbers channels.now }
-    ensures { result ≡ Arrays.shifts_fit (Spec.channel_at channels.now k) }
+// Whether a list's entries hold a channel's shifts; they hold any side.
+fn shifts_fit(numbers: &[u32; CHANNEL_NUMBERS]) -> bool
+    ensures { result ≡ Arrays.shifts_fit (Spec.channel_at numbers.now 0) }
 {
-    let at = CHANNEL_NUMBERS * k;
-    let shift = Channel::META as u32;
-    (channels[at + 2] <= shift) & (channels[at + 3] <= shift)
+    let [_, _, hshift, vshift] = *numbers;
+    let largest = Channel::META as u32;
+    (hshift <= largest) & (vshift <= largest)
 }
 
 // The same of every channel.
-fn channels_fit(channels: &[u32]) -> bool
-    ensures { result ≡ all Arrays.shifts_fit (Spec.channels_of channels.now) }
+fn channels_fit(channels: &[[u32; CHANNEL_NUMBERS]]) -> bool
+    ensures { result ≡ all Arrays.shifts_fit (Arrays.channels_in channels.now) }
 {
-    (0..channels.len() / CHANNEL_NUMBERS).all(|k| shifts_fit(channels, k))
+    channels.iter().all(|numbers| shifts_fit(numbers))
 }
 
 // Question 4, of the steps' flags.
-fn flags_allowed(steps: &[u32]) -> bool
-    ensures { result ≡ all flags_allowed (Spec.flags_of steps.now) }
+fn flags_allowed(steps: &[[u32; STEP_NUMBERS]]) -> bool
+    ensures { result ≡ all flags_allowed (Arrays.flags_in steps.now) }
 {
     let largest = Steps::ALL_FLAGS as u32;
-    (0..steps.len() / STEP_NUMBERS).all(|k| steps[STEP_NUMBERS * k] <= largest)
+    steps.iter().all(|numbers| numbers[0] <= largest)
 }
 
-// Channel `k`, whose shifts fit.
-fn channel_at(channels: &[u32], k: usize) -> Channel
-    requires { (k < Spec.groups Spec.channel_numbers channels.now) × (Arrays.shifts_fit (Spec.channel_at channels.now k) ≡ true) }
-    ensures { result ≡ Spec.channel_at channels.now k }
+// The channel of numbers whose shifts fit.
+fn channel_of(numbers: &[u32; CHANNEL_NUMBERS]) -> Channel
+    requires { Arrays.shifts_fit (Spec.channel_at numbers.now 0) ≡ true }
+    ensures { result ≡ Spec.channel_at numbers.now 0 }
 {
-    let at = CHANNEL_NUMBERS * k;
+    let [width, height, hshift, vshift] = *numbers;
     Channel {
-        width: channels[at],
-        height: channels[at + 1],
-        hshift: channels[at + 2] as u8,
-        vshift: channels[at + 3] as u8,
+        width,
+        height,
+        hshift: hshift as u8,
+        vshift: vshift as u8,
     }
 }
 
 // The list of channels whose shifts fit, each with its own position.
-fn list_of(channels: &[u32]) -> ChannelList
-    requires { (Spec.groups Spec.channel_numbers channels.now ≤ max_channels) × (all Arrays.shifts_fit (Spec.channels_of channels.now) ≡ true) }
-    ensures { result ≡ Arrays.list_of channels.now }
+fn list_of(channels: &[[u32; CHANNEL_NUMBERS]]) -> ChannelList
+    requires { (length channels.now ≤ max_channels) × (all Arrays.shifts_fit (Arrays.channels_in channels.now) ≡ true) }
+    ensures { result ≡ Lists.packed (Arrays.channels_in channels.now) }
 {
-    let count = channels.len() / CHANNEL_NUMBERS;
     let mut list = ChannelList::empty();
-    for k in 0..count {
-        list.push(channel_at(channels, k), k as u8);
+    for numbers in channels {
+        let k = list.count;
+        list.push(channel_of(numbers), k as u8);
     }
     list
 }
@@ -83,30 +84,22 @@ fn held(n: u32) -> u16
     n.min(u16::MAX as u32) as u16
 }
 
-// Step `k`, its first channel and its number held to an entry.
-fn step_at(steps: &[u32], k: usize) -> Step
-    requires { k < Spec.groups Spec.step_numbers steps.now }
-    ensures { result ≡ Arrays.step_by Arrays.held steps.now k }
+// The step of flags, a first channel and a number, both held to an entry.
+fn step_of(numbers: &[u32; STEP_NUMBERS]) -> Step
+    ensures { result ≡ Arrays.step_by Arrays.held numbers.now 0 }
 {
-    let at = STEP_NUMBERS * k;
-    let flags = steps[at];
-    Step {
-        horizontal: flags % 2 == 1,
-        inplace: flags / 2 % 2 == 1,
-        begin: held(steps[at + 1]),
-        number: held(steps[at + 2]),
-    }
+    let [flags, first, number] = *numbers;
+    plan::step_of(flags, held(first), held(number))
 }
 
-// The steps of allowed flags.
-fn steps_of(steps: &[u32]) -> Steps
-    requires { (Spec.groups Spec.step_numbers steps.now ≤ max_steps) × (all flags_allowed (Spec.flags_of steps.now) ≡ true) }
-    ensures { result ≡ Arrays.plan_by Arrays.held steps.now }
+// The steps.
+fn steps_of(steps: &[[u32; STEP_NUMBERS]]) -> Steps
+    requires { length steps.now ≤ max_steps }
+    ensures { result ≡ StepsSpec.packed (Arrays.steps_in steps.now) }
 {
-    let count = steps.len() / STEP_NUMBERS;
     let mut plan = Steps::empty();
-    for k in 0..count {
-        plan.push(step_at(steps, k));
+    for numbers in steps {
+        plan.push(step_of(numbers));
     }
     plan
 }
@@ -116,8 +109,10 @@ fn form_of(version: u32, channels: &[u32], steps: &[u32]) -> Result<Form, Refusa
     ensures judged { answer_of result ≡ Spec.judge_numbers version channels.now steps.now }
     ensures form { IfOk result (λ form. form ≡ Arrays.form_of version channels.now steps.now) }
 {
-    let count = channels.len() / CHANNEL_NUMBERS;
-    let step_count = steps.len() / STEP_NUMBERS;
+    let (channels, _) = channels.as_chunks();
+    let (steps, _) = steps.as_chunks();
+    let count = channels.len();
+    let step_count = steps.len();
     if !((1 <= count)
         & (count <= ChannelList::MAX_CHANNELS)
         & (step_count <= ChannelList::MAX_STEPS))
@@ -138,7 +133,9 @@ fn form_of(version: u32, channels: &[u32], steps: &[u32]) -> Result<Form, Refusa
 
 // Questions 3 to 11 and 14, then the record over the front of `record` and its
 // length in the first number of `length`. A remainder is question 14's, so that
-// the plan is judged before it, and once more by the record's writer.
+// the plan is judged before it, and once more by the record's writer. The slice for
+// the length is the C function's: question 14 asks for it too, before a byte is
+// written, since a refusal changes nothing.
 pub fn record_of_numbers(
     version: u32,
     channels: &[u32],

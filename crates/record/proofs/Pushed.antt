@@ -16,7 +16,7 @@ use Rattle.list.proofs.Maps.{map_length}
 use Rattle.plan.proofs.Packed.{padded_snoc}
 use Rattle.record.specs.Reading.{channel_allowed}
 
-map_snoc {ℓ κ} : {A : Type ℓ} {B : Type κ} (f : A → B) (xs : List A) (x : A) → map f (xs ++ x ∷ []) ≡ map f xs ++ f x ∷ []
+pub map_snoc {ℓ κ} : {A : Type ℓ} {B : Type κ} (f : A → B) (xs : List A) (x : A) → map f (xs ++ x ∷ []) ≡ map f xs ++ f x ∷ []
 map_snoc f [] x = refl
 map_snoc f (y ∷ xs) x = ap (◌∷◌ (f y)) (map_snoc f xs x)
 

@@ -1,15 +1,9 @@
--- `list_of` meets its contract: up to k it has the channels of the numbers and their own positions, and zeros after them. Assumes nothing.
+-- `list_of` meets its contract: up to a group it has the channels of the groups before, and zeros after them. Assumes nothing.
 use mathlib.Core.Path.{◌≡◌}
-use Prim.Native.Nat.{◌-◌, ◌≤◌}
-use lib.ListN.{length}
-use Rattle.list.specs.Lists.{max_channels, own_positions}
-use Rattle.list.proofs.Filled.{FillingList}
-use Rattle.numbered.specs.Numbered.{channels_of}
+use lib.ListN.{take}
+use Rattle.list.specs.Lists as Lists
+use Rattle.numbered.specs.Arrays.{channels_in}
 use Rattle.numbered.proofs.list_of.Given as goal
 
-abbrev pub invariant-loop-k : goal.invariant-loop-k
-invariant-loop-k l =
-    (l.count ≤ max_channels) × (l.k ≤ l.count) × (l.list.count ≡ l.k) × FillingList (channels_of l.channels) (own_positions (length (channels_of l.channels))) l.list
-
-abbrev pub decreases-loop-k : goal.decreases-loop-k
-decreases-loop-k l = l.count - l.k
+abbrev pub invariant-loop-numbers : goal.invariant-loop-numbers
+invariant-loop-numbers l = l.list ≡ Lists.packed (channels_in (take l.numbers-index l.channels))
