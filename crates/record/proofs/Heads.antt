@@ -17,6 +17,7 @@ use Rattle.record.specs.declared.Head.{Head}
 use Rattle.record.specs.declared.Field.{Field}
 use Rattle.record.specs.Bytes.{channel_tag, channel_length, strip_tag, strip_length, step_tag, step_length, head_length}
 use Rattle.record.specs.Reading.{byte_at, length_of, field_size, field_inside, has_head, is_channel, is_step, field_step, field_channel, judge_channel_field, judge_step_field, judge_field}
+use Rattle.record.proofs.Fields.{inside, head, step_long, channel_inside}
 use Rattle.record.specs.Heads.{head_at, head_inside, field_of}
 
 some_cond : (b : Bool) (h : Head) → then_some b h ≡ cond b (Some h) None
@@ -111,3 +112,6 @@ module _ (bytes : List ℕ) (f : Field) (ef : f ≡ field_of bytes) where
           → (is_step bytes ≡ false) × (c ≡ field_channel bytes)
       go true e k = cc
       go false e k = let q : c ≡ field_channel bytes = cc in (e, q)
+
+-- what a function that puts them needs
+pub ruleset questions = (no_field, whole, head_asked, step_asked, channel_test, judged_outside, judged_step, judged_channel, judged_other, inside, head, step_long, channel_inside)

@@ -22,6 +22,8 @@ use Rattle.plan.specs.Adding.{added}
 use Rattle.plan.proofs.Packed.{packed_count, pushed_packed}
 use Rattle.record.specs.Reading.{refused, asked, field_size, field_channel, field_step, is_step, judge_field, finished, answer_of, read_fields, fields_of}
 use Rattle.record.specs.Records.{packed_form}
+use Rattle.numbers.proofs.Refusals.{number_some}
+use Rattle.record.proofs.Heads.{step_held, channel_held}
 use Rattle.record.proofs.Pushed.{metas_pushed, list_pushed, list_count}
 use Rattle.record.proofs.Fields.{judged_inside, is_step_lem, is_channel_lem, step_allowed, channel_allowed_lem}
 
@@ -130,3 +132,6 @@ module _ (version : ℕ) (bytes : List ℕ) (list : ChannelList) (steps : Steps)
             enough = omega (arith, w.enough, more.1, smaller);
             so = rw en (sym (turn more.0 ∙ rw (eq-eqb answer 0 z, k)) ∙ more.2);
           }
+
+-- what the loop over the fields needs
+pub ruleset fields = (held_none, held_step_lem, held_channel, few, form_refused, form_missing, form_all, step_held, channel_held, number_some)

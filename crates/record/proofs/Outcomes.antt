@@ -20,7 +20,10 @@ use Rattle.record.specs.Told.{Record}
 use Rattle.record.specs.Bytes.{step_size, version_size, version_field, channel_fields, step_fields, list_fields, record_of, placed}
 use Rattle.record.specs.Reading.{Form, refused, fields_of, has_version_tag, judge_version_field, form_of}
 use Rattle.record.specs.Records.{packed_form, read_answer, read_of, record_for, write_answer, written_of, written_bytes}
-use Rattle.record.proofs.Joined.{steps_size}
+use Rattle.numbers.proofs.Refusals.{number_some}
+use Rattle.plan.proofs.Judged.{plan_answer}
+use Rattle.record.proofs.Fields.{version_long}
+use Rattle.record.proofs.Joined.{version_within, channels_few, steps_size}
 use Rattle.record.proofs.Placed.{placed_more}
 use Rattle.record.proofs.Forms.{form_has}
 
@@ -144,3 +147,8 @@ module _ (version : ℕ) (l : ChannelList) (s : Steps) (a : ℕ) (ea : a ≡ jud
               let two : out₂ ≡ placed out 0 (v ++ cs) = e₂ ∙ rw (e₁, n) (placed_more out 0 v (omega arith) cs) in
               let three : out₃ ≡ placed out 0 ((v ++ cs) ++ ss) = e₃ ∙ rw (two, m) (placed_more out 0 (v ++ cs) (omega arith) ss) in
               three ∙ rw (append_assoc v cs ss, zero-add) (sym (written_bytes_lem version l s out fits))
+
+-- what the reader and the writer need
+pub ruleset forms = (form_without, form_refused, form_after, version_long, read_refused, form_read, plan_answer, number_some)
+
+pub ruleset writings = (write_refused, write_length, write_bytes, version_within, channels_few, steps_size, plan_answer, number_some)

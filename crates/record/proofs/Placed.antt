@@ -132,3 +132,6 @@ module _ {ℓ} {A : Type ℓ} (field : A → List ℕ) (f : ℕ → A) (n : ℕ)
             counting = counting_more field f n whole start at k w.counting h v ev at' ea;
             so = eo ∙ rw (w.so, w.counting.at_is) (placed_more out₀ start w.counting.done room v);
           }
+
+-- what a loop that puts fields needs
+pub ruleset puttings = (putting_none, putting_length, putting_all, putting_room, putting_more, steps_all, put_placed)

@@ -41,6 +41,7 @@ impl Head {
     const VERSION: Head = Head { tag: 4, size: 1 };
 
     // The head that bytes begin with, where it and the body lie inside them.
+    #[tactic(auto, using(crate::proofs::Heads::head_short, crate::proofs::Heads::head_taken))]
     fn of(bytes: &[u8]) -> Option<Head>
         ensures { result ≡ Heads.head_inside bytes.now }
     {
@@ -107,6 +108,7 @@ fn side_at(bytes: &[u8], at: usize, strip: bool) -> u32
 }
 
 // A field's channel: two sides, whose size goes by the tag, and two shifts.
+#[tactic(auto, using(crate::proofs::Parts::channel_read))]
 fn field_channel(bytes: &[u8]) -> Channel
     requires { ChannelInside bytes.now }
     ensures { result ≡ Reading.field_channel bytes.now }
@@ -123,6 +125,7 @@ fn field_channel(bytes: &[u8]) -> Channel
 }
 
 // Whether a channel has a side that tag 1 can't hold.
+#[tactic(auto, unfolding(crate::specs::Bytes::is_strip))]
 fn is_strip(c: Channel) -> bool
     ensures { result ≡ Bytes.is_strip c }
 {
@@ -130,6 +133,7 @@ fn is_strip(c: Channel) -> bool
 }
 
 // The channel of a field after so many channels, all of them meta or not.
+#[tactic(auto, unfolding(crate::specs::Reading::judge_channel_field, crate::specs::Reading::channel_allowed, crate::specs::Reading::tag_allowed))]
 fn read_channel(bytes: &[u8], channels: usize, metas: bool) -> Result<Channel, Refusal>
     requires { ChannelInside bytes.now }
     ensures judged { answer_of result ≡ Reading.judge_channel_field bytes.now channels metas }
@@ -147,6 +151,7 @@ fn read_channel(bytes: &[u8], channels: usize, metas: bool) -> Result<Channel, R
 }
 
 // The step of a field after so many steps.
+#[tactic(auto, unfolding(crate::specs::Reading::judge_step_field, plan::specs::Steps::flags_allowed))]
 fn read_step(bytes: &[u8], steps: usize) -> Result<Step, Refusal>
     requires { Bytes.step_size ≤ length bytes.now }
     ensures judged { answer_of result ≡ Reading.judge_step_field bytes.now steps }
@@ -166,6 +171,7 @@ fn read_step(bytes: &[u8], steps: usize) -> Result<Step, Refusal>
 
 // The field that bytes begin with, after so many channels, all of them meta or not,
 // and so many steps, and the bytes behind it.
+#[tactic(auto, using(crate::proofs::Heads::questions))]
 fn read_field(
     bytes: &[u8],
     channels: usize,
@@ -192,6 +198,7 @@ fn read_field(
 // What the fields of a record with the given version hold, each judged before the
 // next. `metas` says whether all channels so far are meta: meta channels stand
 // first, so the last one tells. A `while`: each field says where the next begins.
+#[tactic(auto, using(crate::proofs::Held::fields))]
 fn read_fields(version: u32, bytes: &[u8]) -> Result<Form, Refusal>
     ensures { Told.record_told result ≡ Spec.packed_form (Reading.fields_of version bytes.now) }
 {
@@ -230,6 +237,7 @@ fn has_version_tag(bytes: &[u8]) -> bool
 }
 
 // The version's field.
+#[tactic(auto, using(crate::proofs::Heads::questions), unfolding(crate::specs::Reading::judge_version_field))]
 fn judge_version(bytes: &[u8]) -> Result<(), Refusal>
     ensures { answer_of result ≡ Reading.judge_version_field bytes.now }
 {
@@ -244,6 +252,7 @@ fn judge_version(bytes: &[u8]) -> Result<(), Refusal>
 }
 
 // What a record holds, by the questions of its form.
+#[tactic(auto, using(crate::proofs::Outcomes::forms))]
 pub fn read_form(bytes: &[u8]) -> Result<Form, Refusal>
     ensures { Told.record_told result ≡ Spec.packed_form (Reading.form_of bytes.now) }
 {
@@ -255,6 +264,7 @@ pub fn read_form(bytes: &[u8]) -> Result<Form, Refusal>
 }
 
 // What a record holds, by the questions of its form and of its plan.
+#[tactic(auto, using(crate::proofs::Outcomes::forms))]
 pub fn read_record(bytes: &[u8]) -> Result<Form, Refusal>
     ensures { Told.record_told result ≡ Spec.read_of bytes.now }
 {
@@ -264,6 +274,7 @@ pub fn read_record(bytes: &[u8]) -> Result<Form, Refusal>
 }
 
 // Flags, the first channel and the number of channels.
+#[tactic(auto, unfolding(crate::specs::Bytes::step_field))]
 fn step_field(step: Step) -> [u8; STEP_SIZE]
     ensures { result ≡ Bytes.step_field step }
 {
@@ -286,6 +297,7 @@ fn step_field(step: Step) -> [u8; STEP_SIZE]
 // `bytes` over `out` from `at` on where it has room for them, else nothing. Not by
 // `get_mut(..)` or `split_at_mut_checked(..)`: of a place that stands in an `Option`
 // no clause says what it leaves in `out`.
+#[tactic(auto, using(crate::proofs::Placed::put_placed, crate::proofs::Placed::put_nothing))]
 pub fn put_bytes(bytes: &[u8], at: usize, out: &mut [u8])
     ensures { out.new ≡ Bytes.put_bytes out.old at bytes.now }
 {
@@ -317,6 +329,7 @@ fn put_channel(c: Channel, at: usize, out: &mut [u8]) -> usize
 }
 
 // The bytes of a channel's field.
+#[tactic(auto, using(crate::proofs::Joined::channel_size_lem))]
 fn channel_size(c: Channel) -> usize
     ensures { result ≡ length (Bytes.channel_field c) }
 {
@@ -335,6 +348,7 @@ fn channels_size(list: &ChannelList) -> usize
 }
 
 // The bytes of the version's field, which version 1 has not.
+#[tactic(auto, unfolding(crate::specs::Bytes::version_field))]
 fn version_size(version: u32) -> usize
     ensures { result ≡ length (Bytes.version_field version) }
 {
@@ -346,6 +360,7 @@ fn version_size(version: u32) -> usize
 }
 
 // The version's field, from the beginning of `out` on.
+#[tactic(auto, using(crate::proofs::Placed::put_placed, crate::proofs::Placed::placed_none), unfolding(crate::specs::Bytes::version_field))]
 fn write_version(version: u32, out: &mut [u8])
     requires { length (Bytes.version_field version) ≤ length out.old }
     ensures { out.new ≡ Bytes.placed out.old 0 (Bytes.version_field version) }
@@ -358,6 +373,7 @@ fn write_version(version: u32, out: &mut [u8])
 }
 
 // The channels' fields, from `start` on.
+#[tactic(auto, using(crate::proofs::Placed::puttings, list::proofs::Channels::channels_all))]
 fn write_channels(list: &ChannelList, start: usize, out: &mut [u8])
     requires { start + length (Bytes.channel_fields (channels list.now)) ≤ length out.old }
     ensures { out.new ≡ Bytes.placed out.old start (Bytes.channel_fields (channels list.now)) }
@@ -370,6 +386,7 @@ fn write_channels(list: &ChannelList, start: usize, out: &mut [u8])
 
 // The steps' fields, from `start` on. Not one function with `write_channels`, whose
 // fields differ in length, so that each says where it ends.
+#[tactic(auto, using(crate::proofs::Placed::puttings, crate::proofs::Joined::step_size_lem))]
 fn write_steps(steps: &Steps, start: usize, out: &mut [u8])
     requires { start + length (Bytes.step_fields (StepsSpec.steps steps.now)) ≤ length out.old }
     ensures { out.new ≡ Bytes.placed out.old start (Bytes.step_fields (StepsSpec.steps steps.now)) }
@@ -381,6 +398,7 @@ fn write_steps(steps: &Steps, start: usize, out: &mut [u8])
 }
 
 // The record of a form whose plan is accepted, and its length; bytes past it stay.
+#[tactic(auto, using(crate::proofs::Outcomes::writings))]
 pub fn write_record(form: &Form, out: &mut [u8]) -> Result<usize, Refusal>
     ensures { (Told.written_told result ≡ Spec.written_of form.now.version form.now.list form.now.steps out.old) × (out.new ≡ Spec.written_bytes form.now.version form.now.list form.now.steps out.old) }
 {

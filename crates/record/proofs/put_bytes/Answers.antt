@@ -4,14 +4,8 @@ use Prim.Native.Nat.{◌+◌, ◌-◌}
 use native.Mathlib.Omega.{arith}
 use lib.ListN.{length}
 use lib.Seq.{drop-drop}
-use Rattle.record.proofs.Placed.{put_placed, put_nothing}
+use Rattle.record.proofs.Placed.{put_placed}
 use Rattle.record.proofs.put_bytes.Goals as goal
-
-pub returns-then-out-at : goal.returns-then-out-at
-returns-then-out-at c = let g = c.args in put_nothing g.out.now g.at g.bytes.now (omega (arith, c.if-out-at.true))
-
-pub returns-then-out-at-2 : goal.returns-then-out-at-2
-returns-then-out-at-2 c = let g = c.args in put_nothing g.out.now g.at g.bytes.now (omega (arith, c.if-out-at.false, c.if-out-at-2.true))
 
 pub returns : goal.returns
 returns c =

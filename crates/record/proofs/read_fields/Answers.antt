@@ -7,12 +7,9 @@ use Rattle.numbers.proofs.Refusals.{number_some}
 use Rattle.list.proofs.Asking.{no, yes}
 use Rattle.record.specs.Records.{packed_form}
 use Rattle.record.specs.Told.{record_told}
-use Rattle.record.proofs.Heads.{step_held, channel_held}
-use Rattle.record.proofs.Held.{held_none, held_step_lem, held_channel, few, form_refused, form_missing, form_all}
+use Rattle.record.proofs.Heads.{channel_held}
+use Rattle.record.proofs.Held.{few, form_refused, form_missing, form_all}
 use Rattle.record.proofs.read_fields.Goals as goal
-
-pub loop-rest-init : goal.loop-rest-init
-loop-rest-init c = held_none _ _ _ _ c.empty-list.ensures c.empty-steps.ensures
 
 pub returns-in_err-field : goal.returns-in_err-field
 unfolding packed_form
@@ -27,19 +24,6 @@ overflow_cast-k c =
     let n : length c.loop-rest.rest.now ≡ 0 → ⊥ = eqb-false _ 0 (no c.is_empty.ensures c.loop-rest-test.true) in
     let f = channel_held _ _ c.in_ok-field.ensures.field _ c.in-Channel.is in
     omega (arith, few _ _ _ _ _ _ c.loop-rest.invariant n 0 c.in_ok-field.ensures.judged refl _ c.in_ok-field.ensures.rest f.0)
-
-pub loop-rest-preserved-in-Step : goal.loop-rest-preserved-in-Step
-loop-rest-preserved-in-Step c =
-    let n = eqb-false _ 0 (no c.is_empty.ensures c.loop-rest-test.true) in
-    let f = step_held _ _ c.in_ok-field.ensures.field _ c.in-Step.is in
-    held_step_lem _ _ _ _ _ _ c.loop-rest.invariant n 0 c.in_ok-field.ensures.judged refl _ c.in_ok-field.ensures.rest _ _ _ f.0 (rw f.1 at c.push.ensures) refl refl
-
-pub loop-rest-preserved : goal.loop-rest-preserved
-loop-rest-preserved c =
-    let n = eqb-false _ 0 (no c.is_empty.ensures c.loop-rest-test.true) in
-    let f = channel_held _ _ c.in_ok-field.ensures.field _ c.in-Channel.is in
-    held_channel _ _ _ _ _ _ c.loop-rest.invariant n 0 c.in_ok-field.ensures.judged refl _ c.in_ok-field.ensures.rest
-    _ _ _ _ f.0 f.1 c.push-in-Channel.ensures refl c.is_meta-metas.ensures
 
 pub returns-then-list-eq0 : goal.returns-then-list-eq0
 unfolding packed_form

@@ -5,7 +5,7 @@ use native.Mathlib.Omega.{arith}
 use Rattle.list.specs.Lists.{channel_at}
 use Rattle.list.proofs.Channels.{channels_all}
 use Rattle.record.specs.Bytes.{joined, channel_field}
-use Rattle.record.proofs.Placed.{putting_none, putting_length, putting_all, putting_room, putting_more}
+use Rattle.record.proofs.Placed.{putting_none, putting_room, putting_more}
 use Rattle.record.proofs.write_channels.Goals as goal
 
 pub loop-k-init : goal.loop-k-init
@@ -22,11 +22,3 @@ pub loop-k-preserved : goal.loop-k-preserved
 loop-k-preserved c =
     putting_more channel_field (channel_at c.args.list.now) _ _ c.args.start _ c.requires
     _ _ _ c.loop-k.invariant c.loop-k-test.true _ (ap channel_field c.channel.ensures) _ _ c.put_channel-at.ensures.1 c.put_channel-at.ensures.0
-
-pub shape_of-out : goal.shape_of-out
-shape_of-out c =
-    putting_length channel_field (channel_at c.args.list.now) _ _ _ _ (omega (arith, c.requires)) _ _ _ c.loop-k.invariant
-
-pub returns : goal.returns
-returns c =
-    putting_all channel_field (channel_at c.args.list.now) _ _ _ _ (omega (arith, c.requires)) _ _ _ c.loop-k.invariant c.loop-k-test.false

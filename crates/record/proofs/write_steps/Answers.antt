@@ -7,7 +7,7 @@ use borrow.Author.Rules.{rules}
 use lib.ListN.{length}
 use Rattle.plan.specs.Steps.{step_at}
 use Rattle.record.specs.Bytes.{step_size, joined, step_field}
-use Rattle.record.proofs.Placed.{putting_none, putting_length, putting_all, putting_room, putting_more, steps_all, put_placed}
+use Rattle.record.proofs.Placed.{putting_none, putting_room, putting_more, steps_all, put_placed}
 use Rattle.record.proofs.write_steps.Goals as goal
 
 pub loop-k-init : goal.loop-k-init
@@ -23,11 +23,3 @@ loop-k-preserved c =
     let room = putting_room step_field (step_at c.args.steps.now) _ _ c.args.start _ c.requires _ _ _ c.loop-k.invariant c.loop-k-test.true _ f in
     putting_more step_field (step_at c.args.steps.now) _ _ c.args.start _ c.requires
     _ _ _ c.loop-k.invariant c.loop-k-test.true _ f _ _ (c.put_bytes.ensures ∙ put_placed _ _ _ room) (omega arith)
-
-pub shape_of-out : goal.shape_of-out
-shape_of-out c =
-    putting_length step_field (step_at c.args.steps.now) _ _ _ _ (omega (arith, c.requires)) _ _ _ c.loop-k.invariant
-
-pub returns : goal.returns
-returns c =
-    putting_all step_field (step_at c.args.steps.now) _ _ _ _ (omega (arith, c.requires)) _ _ _ c.loop-k.invariant c.loop-k-test.false
