@@ -2,7 +2,7 @@
 use mathlib.Core.Path.{◌≡◌, refl, sym, ap, ◌∙◌}
 use mathlib.Core.Bool.{true}
 use mathlib.Core.List.{List, [], ◌∷◌}
-use Prim.Native.Nat.{ℕ, zero, suc, ◌+◌, ◌<◌, ◌≤◌, min}
+use Prim.Native.Nat.{ℕ, zero, suc, ◌<◌, ◌≤◌, min}
 use native.Mathlib.Omega.{arith}
 use lib.ListN.{get_or}
 use Rattle.list.specs.declared.Step.{Step}
@@ -16,16 +16,12 @@ use Rattle.numbered.specs.Numbered.{channel_numbers, step_numbers, groups, chann
 use Rattle.numbered.specs.Arrays.{list_of, plan_by, step_by}
 use Rattle.numbered.proofs.Fields.{entry_at, channels_count, flags_small}
 use Rattle.plan.specs.Steps.{flags_allowed}
-use Rattle.list.proofs.Tables.{table_length}
+use Rattle.list.proofs.Tables.{table_length, table_same}
 use Rattle.record.proofs.Flags.{flags_read}
 
 -- the step with its first channel and its number put through f
 abbrev pub over : (ℕ → ℕ) → Step → Step
 over f s = record { horizontal = s.horizontal; inplace = s.inplace; begin = f s.begin; number = f s.number }
-
-pub table_same {ℓ} : {A : Type ℓ} (f g : ℕ → A) (k n : ℕ) → ((j : ℕ) → j < k + n → f j ≡ g j) → table f k n ≡ table g k n
-table_same f g k zero h = refl
-table_same f g k (suc n) h = rw (h k (omega arith), table_same f g (suc k) n (λ j l. h j (omega arith)))
 
 pub map_table {ℓ κ} : {A : Type ℓ} {B : Type κ} (h : A → B) (f : ℕ → A) (k n : ℕ) → map h (table f k n) ≡ table (λ j. h (f j)) k n
 map_table h f k zero = refl
@@ -61,11 +57,11 @@ module _ (f : ℕ → ℕ) (ms : List ℕ) where
     unfolding S.steps steps_of
     plan_steps =
         rw (plan_count, all_meant, map_table (over f) (step_at ms) 0 (groups step_numbers ms))
-        (table_same (S.step_at (plan_by f ms)) (λ j. over f (step_at ms j)) 0 (groups step_numbers ms) (λ j l. step_is j (omega arith)))
+        (table_same (S.step_at (plan_by f ms)) (λ j. over f (step_at ms j)) 0 (groups step_numbers ms) (λ j m l. step_is j (omega arith)))
 
     pub plan_flags : S.all_flags (plan_by f ms) ≡ flags_of ms
     unfolding S.all_flags plan_by flags_of
-    plan_flags = rw all_meant (table_same _ (flags_at ms) 0 (groups step_numbers ms) (λ j l. array_at (flags_at ms) j (omega arith)))
+    plan_flags = rw all_meant (table_same _ (flags_at ms) 0 (groups step_numbers ms) (λ j m l. array_at (flags_at ms) j (omega arith)))
 
 -- ---- the arrays of steps with allowed flags hold the list of them
 flags_by : (f : ℕ → ℕ) (ms : List ℕ) (k : ℕ) → flags_at ms k < 4 → S.flags_of (step_by f ms k) ≡ flags_at ms k
@@ -78,7 +74,7 @@ module _ (f : ℕ → ℕ) (ms : List ℕ) (a : all flags_allowed (flags_of ms) 
   packed_table =
       let n = groups step_numbers ms in
       let l = table_length (step_by f ms) 0 n in
-      let t = map_table S.flags_of (step_by f ms) 0 n ∙ table_same (λ j. S.flags_of (step_by f ms j)) (flags_at ms) 0 n (λ j l. flags_by f ms j (flags_small ms j (omega arith) a)) in
+      let t = map_table S.flags_of (step_by f ms) 0 n ∙ table_same (λ j. S.flags_of (step_by f ms j)) (flags_at ms) 0 n (λ j m l. flags_by f ms j (flags_small ms j (omega arith) a)) in
       let b = map_table (λ (s : Step). s.begin) (step_by f ms) 0 n in
       let m = map_table (λ (s : Step). s.number) (step_by f ms) 0 n in
       λ i. record {

@@ -6,7 +6,7 @@ use Prim.Native.Nat.{ℕ, zero, suc, ◌+◌, ◌*◌, ◌<◌, ◌≤◌}
 use native.Mathlib.Nat.{mul-suc}
 use native.Mathlib.Omega.{arith}
 use lib.ListN.{length, get_or, take, drop}
-use lib.Seq.{length-take-le, get_or-take, get_or-drop, drop-drop}
+use lib.Seq.{take_all, length-take-le, get_or-take, get_or-drop, drop-drop}
 use lib.Dec.{leb}
 use Rattle.std.specs.Simd.{first_chunks}
 use Rattle.std.specs.List.{list_all}
@@ -141,3 +141,6 @@ grouped_lem ns ms cs ss ec nc es n =
       flags_are = ap flags_in es ∙ flags_grouped ms;
       steps_are = ap steps_in es ∙ steps_grouped ms;
     }
+
+-- what the loops that fill the arrays need
+pub ruleset fillings = (channel_fits_in, list_so_far, channel_more, step_more, take_all)

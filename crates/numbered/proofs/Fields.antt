@@ -47,10 +47,6 @@ module _ (ns : List ℕ) where
     unfolding channels_of
     channel_is = sym (entry_at (channel_at ns) (groups channel_numbers ns) k _ h)
 
-    pub channel_fits : all shifts_fit (channels_of ns) ≡ true → shifts_fit (channel_at ns k) ≡ true
-    unfolding channels_of
-    channel_fits a = entry_passes (channel_at ns) shifts_fit (groups channel_numbers ns) k a h
-
 -- ---- a step
 module _ (ms : List ℕ) where
   pub steps_count : length (steps_of ms) ≡ groups step_numbers ms

@@ -20,7 +20,7 @@ use Rattle.numbered.specs.Numbered.{judge_numbers}
 use Rattle.numbered.specs.Arrays.{shifts_fit, list_of, plan_by, held, channels_in, flags_in, steps_in, form_of}
 use Rattle.numbered.proofs.Arrays.{packed_table}
 use Rattle.numbered.proofs.Judged.{ListFits, StepsFit, numbers_refused₃, numbers_misfit, numbers_fit, numbers_held}
-use Rattle.numbered.proofs.Chunks.{Grouped}
+use Rattle.numbered.proofs.Chunks.{Grouped, grouped_lem}
 
 -- the code's test of both counts
 abbrev counted : List (List ℕ) → List (List ℕ) → Bool
@@ -55,3 +55,6 @@ module _ (version : ℕ) (ns ms : List ℕ) (cs ss : List (List ℕ)) (g : Group
       pub form_judged : judge_plan version l s ≡ judge_numbers version ns ms
       unfolding Q.count_allowed
       form_judged = rw (list_is, steps_is) (numbers_held version ns ms (rw (g.channels_number, g.steps_number) at h) fits.0)
+
+-- what the first two refusals need
+pub ruleset refusals = (grouped_lem, count_refused, misfit_refused)

@@ -26,6 +26,7 @@ pub const CHANNEL_NUMBERS: usize = 4;
 pub const STEP_NUMBERS: usize = 3;
 
 // Whether a list's entries hold a channel's shifts; they hold any side.
+#[tactic(auto, unfolding(crate::specs::Numbered::channel_at, crate::specs::Arrays::shifts_fit))]
 fn shifts_fit(numbers: &[u32; CHANNEL_NUMBERS]) -> bool
     ensures { result ≡ Arrays.shifts_fit (Spec.channel_at numbers.now 0) }
 {
@@ -50,6 +51,7 @@ fn flags_allowed(steps: &[[u32; STEP_NUMBERS]]) -> bool
 }
 
 // The channel of numbers whose shifts fit.
+#[tactic(auto, using(crate::proofs::Fields::channel_fit), unfolding(crate::specs::Numbered::channel_at))]
 fn channel_of(numbers: &[u32; CHANNEL_NUMBERS]) -> Channel
     requires { Arrays.shifts_fit (Spec.channel_at numbers.now 0) ≡ true }
     ensures { result ≡ Spec.channel_at numbers.now 0 }
@@ -64,6 +66,7 @@ fn channel_of(numbers: &[u32; CHANNEL_NUMBERS]) -> Channel
 }
 
 // The list of channels whose shifts fit, each with its own position.
+#[tactic(auto, using(crate::proofs::Chunks::fillings))]
 fn list_of(channels: &[[u32; CHANNEL_NUMBERS]]) -> ChannelList
     requires { (length channels.now ≤ max_channels) × (all Arrays.shifts_fit (Arrays.channels_in channels.now) ≡ true) }
     ensures { result ≡ Lists.packed (Arrays.channels_in channels.now) }
@@ -93,6 +96,7 @@ fn step_of(numbers: &[u32; STEP_NUMBERS]) -> Step
 }
 
 // The steps.
+#[tactic(auto, using(crate::proofs::Chunks::fillings))]
 fn steps_of(steps: &[[u32; STEP_NUMBERS]]) -> Steps
     requires { length steps.now ≤ max_steps }
     ensures { result ≡ StepsSpec.packed (Arrays.steps_in steps.now) }
@@ -105,6 +109,7 @@ fn steps_of(steps: &[[u32; STEP_NUMBERS]]) -> Steps
 }
 
 // The version, the list and the steps of the numbers, by questions 3 to 11.
+#[tactic(auto, using(crate::proofs::Formed::refusals))]
 fn form_of(version: u32, channels: &[u32], steps: &[u32]) -> Result<Form, Refusal>
     ensures judged { answer_of result ≡ Spec.judge_numbers version channels.now steps.now }
     ensures form { IfOk result (λ form. form ≡ Arrays.form_of version channels.now steps.now) }

@@ -4,18 +4,8 @@ use Rattle.std.proofs.Common.{rules, ◌≡◌, ◌∙◌}
 use Rattle.numbers.specs.Numbers.{answer_of, number_of}
 use Rattle.plan.proofs.Judged.{plan_answer}
 use Rattle.numbered.proofs.Chunks.{grouped_lem}
-use Rattle.numbered.proofs.Formed.{count_refused, misfit_refused, form_is, form_judged}
+use Rattle.numbered.proofs.Formed.{form_is, form_judged}
 use Rattle.numbered.proofs.form_of.Goals as goal
-
-pub returns-then-not-count-step_count-clause-judged : goal.returns-then-not-count-step_count-clause-judged
-returns-then-not-count-step_count-clause-judged c =
-    let g = grouped_lem _ _ _ _ c.as_chunks.ensures.front c.as_chunks.ensures.front_len c.as_chunks-2.ensures.front c.as_chunks-2.ensures.front_len in
-    count_refused c.args.version _ _ _ _ g c.if-not-count-step_count.true
-
-pub returns-then-not-channels_fit-flags_allowed-clause-judged : goal.returns-then-not-channels_fit-flags_allowed-clause-judged
-returns-then-not-channels_fit-flags_allowed-clause-judged c =
-    let g = grouped_lem _ _ _ _ c.as_chunks.ensures.front c.as_chunks.ensures.front_len c.as_chunks-2.ensures.front c.as_chunks-2.ensures.front_len in
-    misfit_refused c.args.version _ _ _ _ g c.if-not-count-step_count.false _ _ c.channels_fit.ensures c.flags_allowed.ensures c.if-not-channels_fit-flags_allowed.true
 
 pub returns-in_err-rewrite-clause-judged : goal.returns-in_err-rewrite-clause-judged
 returns-in_err-rewrite-clause-judged c =
