@@ -1,3 +1,4 @@
+pub mod Entries
 pub mod Fronts
 pub mod Outcomes
 pub mod Read

@@ -1,6 +1,6 @@
 -- The rows of a layout (specs/Layout.antt): their lengths beside the slices', the counts that the code finds, and the call's three outcomes: refused by
 -- questions 1 to 11, refused by question 14, and done. Assumes nothing.
-use mathlib.Core.Path.{◌≡◌, sym, ap, ◌∙◌}
+use mathlib.Core.Path.{◌≡◌, sym, ◌∙◌}
 use mathlib.Core.Bool.{true, false, ◌&&◌, and_assoc, and-eq-true_iff}
 use mathlib.Core.List.{List, [], ◌∷◌}
 use Prim.Native.Nat.{ℕ, ◌*◌, ◌≤◌}
@@ -19,7 +19,6 @@ use Rattle.plan.specs.Coarse.{coarse_count}
 use Rattle.plan.proofs.Answers.{steps_length}
 use Rattle.plan.proofs.Coarse.{count_laws}
 use Rattle.plan.proofs.Counts.{counted_all}
-use Rattle.record.specs.Bytes.{placed}
 use Rattle.record.specs.Records.{read_answer}
 use Rattle.layout.specs.Layout as Layout
 use Rattle.layout.specs.Layout.{all_steps, all_channels, Rows, rows, counts_of, rows_of, layout_of, fits, all_fit, over, all_over, answer, after}
@@ -61,12 +60,9 @@ module _ (version : ℕ) (s : Steps) (l : ChannelList) (few-steps : s.count ≤ 
     pub coarse_few : coarse ≤ max_channels
     coarse_few = omega (arith, e, (count_laws (rule_of version).stop (channels l)).counts.within, channel_count)
 
-    pub counts_over : (out : List ℕ) → placed out 0 (version ∷ s.count ∷ l.count ∷ coarse ∷ []) ≡ over (counts_of version (S.steps s) (channels l)) out
+    pub counts_are : version ∷ s.count ∷ l.count ∷ coarse ∷ [] ≡ counts_of version (S.steps s) (channels l)
     unfolding Layout.counts_of
-    counts_over out =
-        let found = version ∷ s.count ∷ l.count ∷ coarse ∷ [] in
-        let e : found ≡ counts_of version (S.steps s) (channels l) = λ i. version ∷ step_count i ∷ channel_count i ∷ e i ∷ [] in
-        Fronts.placed_front out found ∙ ap (λ (xs : List ℕ). over xs out) e
+    counts_are = λ i. version ∷ step_count i ∷ channel_count i ∷ e i ∷ []
 
   -- question 14, as the code asks it
   pub room_is : (out : Rows)

@@ -3,14 +3,14 @@
 // slices; after a refusal every slice is as it was.
 #![tactic(auto)]
 
-ghost use Rattle.std.specs.Prelude.{◌≡◌, true, ◌+◌, ◌≤◌, length};
+ghost use Rattle.std.specs.Prelude.{◌≡◌, true, List, [], ◌∷◌, ℕ, ◌*◌, ◌<◌, ◌≤◌, length};
 ghost use Rattle.numbers.specs.Numbers.{answer_of};
 ghost use Rattle.list.specs.Lists as Lists;
 ghost use Rattle.list.specs.Lists.{max_channels, max_steps};
 ghost use Rattle.plan.specs.Steps as StepsSpec;
 ghost use Rattle.plan.specs.Version.{rule_of};
 ghost use Rattle.plan.specs.Coarse.{coarse_count};
-ghost use Rattle.record.specs.Bytes.{placed};
+ghost use Rattle.layout.specs.Entries.{Entries};
 ghost use Rattle.layout.specs.Layout as Spec;
 
 use channel::Channel;
@@ -22,61 +22,87 @@ use plan::Steps;
 // Version, steps, channels and coarse channels.
 const COUNT_NUMBERS: usize = 4;
 
+// What a layout has of an entry: N numbers. An `impl From` would have to stand beside
+// the entry's type, in crates that don't know a layout's form.
+trait Numbers<const N: usize> {
+    ghost numbers_of: { Self → List ℕ };
+
+    fn numbers(self) -> [u32; N]
+        ensures { result ≡ numbers_of self };
+}
+
 // Flags, first channel and number.
-fn step_numbers(step: Step) -> [u32; STEP_NUMBERS]
-    ensures { result ≡ Spec.step_numbers step }
-{
-    [
-        plan::flags_of(step) as u32,
-        step.begin as u32,
-        step.number as u32,
-    ]
+impl Numbers<STEP_NUMBERS> for Step {
+    ghost numbers_of = { Spec.step_numbers };
+
+    #[tactic(auto, unfolding(crate::specs::Layout::step_numbers))]
+    fn numbers(self) -> [u32; STEP_NUMBERS] {
+        [
+            plan::flags_of(self) as u32,
+            self.begin as u32,
+            self.number as u32,
+        ]
+    }
 }
 
 // Width, height and two shifts.
-fn channel_numbers(c: Channel) -> [u32; CHANNEL_NUMBERS]
-    ensures { result ≡ Spec.channel_numbers c }
-{
-    [c.width, c.height, c.hshift as u32, c.vshift as u32]
+impl Numbers<CHANNEL_NUMBERS> for Channel {
+    ghost numbers_of = { Spec.channel_numbers };
+
+    #[tactic(auto, unfolding(crate::specs::Layout::channel_numbers))]
+    fn numbers(self) -> [u32; CHANNEL_NUMBERS] {
+        [
+            self.width,
+            self.height,
+            self.hshift as u32,
+            self.vshift as u32,
+        ]
+    }
 }
 
-// `numbers` over `out` from `at` on.
-fn put_numbers(numbers: &[u32], at: usize, out: &mut [u32])
-    requires { at + length numbers.now ≤ length out.old }
-    ensures { out.new ≡ placed out.old at numbers.now }
+// An origin.
+impl Numbers<1> for u8 {
+    ghost numbers_of = { λ origin. origin ∷ [] };
+
+    fn numbers(self) -> [u32; 1] {
+        [self as u32]
+    }
+}
+
+// The numbers of `count` entries, one after the other, over the front of `out`.
+fn put_entries<const N: usize, T: Numbers<N>, F: Fn(usize) -> T>(
+    count: usize,
+    entry: F,
+    out: &mut [u32],
+)
+    requires asked { (k : ℕ) → k < count → F.pre entry k }
+    requires room { N * count ≤ length out.old }
+    ensures { Entries T.numbers_of (F.post entry) count out.old out.new }
 {
-    out[at..at + numbers.len()].copy_from_slice(numbers);
+    for k in 0..count {
+        out[N * k..N * k + N].copy_from_slice(&entry(k).numbers());
+    }
 }
 
 fn put_steps(steps: &Steps, out: &mut [u32])
     requires { (steps.now.count ≤ max_steps) × (length (Spec.all_steps (StepsSpec.steps steps.now)) ≤ length out.old) }
     ensures { out.new ≡ Spec.over (Spec.all_steps (StepsSpec.steps steps.now)) out.old }
 {
-    let mut at = 0;
-    for k in 0..steps.count {
-        put_numbers(&step_numbers(steps.step(k)), at, out);
-        at += STEP_NUMBERS;
-    }
+    put_entries(steps.count, |k| steps.step(k), out);
 }
 
 fn put_channels(list: &ChannelList, out: &mut [u32])
-    requires { (list.now.count ≤ max_channels) × (length (Spec.all_channels (Lists.channels list.now)) ≤ length out.old) }
+    requires { length (Spec.all_channels (Lists.channels list.now)) ≤ length out.old }
     ensures { out.new ≡ Spec.over (Spec.all_channels (Lists.channels list.now)) out.old }
 {
-    let mut at = 0;
-    for k in 0..list.count {
-        put_numbers(&channel_numbers(list.channel(k)), at, out);
-        at += CHANNEL_NUMBERS;
-    }
+    put_entries(list.len(), |k| list.channel(k), out);
 }
 
 fn put_origins(list: &ChannelList, out: &mut [u32])
-    requires { (list.now.count ≤ max_channels) × (length (Lists.origins list.now) ≤ length out.old) }
+    requires { length (Lists.origins list.now) ≤ length out.old }
     ensures { out.new ≡ Spec.over (Lists.origins list.now) out.old }
 {
-    for k in 0..list.count {
-        out[k] = list.origins[k] as u32;
-    }
+    put_entries(list.len(), |k| list.origins[k], out);
 }
 
 // The rows of a layout that fit the slices; `coarse` channels are coarse.
@@ -99,7 +125,7 @@ fn put_layout(
         reached.count as u32,
         coarse as u32,
     ];
-    put_numbers(&numbers, 0, counts);
+    counts[..COUNT_NUMBERS].copy_from_slice(&numbers);
     put_steps(meant, steps);
     put_channels(reached, channels);
     put_origins(reached, origins);

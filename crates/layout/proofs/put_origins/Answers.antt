@@ -1,35 +1,24 @@
--- `put_origins` meets its contract: the origins so far are pasted into the slice. Assumes nothing.
-use mathlib.Core.Path.{refl, ◌∙◌}
+-- `put_origins` meets its contract: each entry is the origin of its index (proofs/Entries.antt). Assumes nothing.
+use Rattle.std.proofs.Common.{◌≡◌, ◌-◌, ◌∙◌, ap, get_or, rules}
 use native.Mathlib.Omega.{arith}
-use lib.ListN.{length-set}
+use Rattle.list.specs.Tables.{table}
+use Rattle.list.specs.Lists as Lists
 use Rattle.list.specs.Lists.{origins}
-use Rattle.list.proofs.Channels.{origins_length, origins_at}
-use Rattle.layout.proofs.Fronts.{front_none, front_more, front_all}
+use Rattle.list.proofs.Channels.{origins_length}
+use Rattle.layout.specs.Layout.{over}
+use Rattle.layout.proofs.Entries.{entries_all, joined_ones}
 use Rattle.layout.proofs.put_origins.Goals as goal
 
-pub loop-k-init : goal.loop-k-init
-loop-k-init c =
-    let g = c.args in
-    let few = c.requires.0 in
-    let room = c.requires.1 in
-    let n = origins_length g.list.now in
-    (few, omega arith, front_none g.out.now (origins g.list.now), refl, omega arith, omega arith)
+pub put_entries-requires-clause-room : goal.put_entries-requires-clause-room
+put_entries-requires-clause-room c = omega (arith, c.len.ensures, c.requires, origins_length c.args.list.now)
 
-pub loop-k-preserved : goal.loop-k-preserved
-loop-k-preserved c =
-    let g = c.args in
-    let i = c.loop-k.invariant in
-    let found = origins_at g.list.now c.loop-k.k (omega arith) in (
-      i.0,
-      i.1,
-      rw i.2 (front_more g.out.now (origins g.list.now) c.loop-k.k _ (omega arith) (omega arith) found),
-      simp length-set i.3,
-      omega arith,
-      i.5,
-    )
+pub put_entries-requires-clause-asked : goal.put_entries-requires-clause-asked
+put_entries-requires-clause-asked c = λ k h _ _ _ _ _. omega arith
 
 pub returns : goal.returns
+unfolding Lists.origins
 returns c =
-    let g = c.args in
-    let i = c.loop-k.invariant in
-    i.2 ∙ front_all g.out.now (origins g.list.now) c.loop-k.k (omega arith)
+    let l = c.args.list.now in
+    let z : c.len.result - 0 ≡ c.len.result = omega arith in
+    entries_all _ _ (λ k. get_or l.origins k 0) _ _ _ _ (ap (table (λ k. get_or l.origins k 0) 0) (z ∙ c.len.ensures)) (λ k x h p. search rules) c.put_entries.ensures
+    ∙ ap (λ xs. over xs c.args.out.now) (joined_ones (origins l))
