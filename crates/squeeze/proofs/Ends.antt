@@ -1,95 +1,108 @@
 -- What a call on a record comes to (specs/Entry.antt), by what the reader of its form, the plan run and the writer promise: the run and the writer
 -- judge the plan. Assumes nothing.
 use mathlib.Core.Path.{◌≡◌, refl, ◌∙◌}
-use mathlib.Core.Bool.{Bool, true, false}
+use mathlib.Core.Bool.{Bool, true, false, cond, ◌&&◌}
 use mathlib.Core.List.{List}
 use Prim.Native.Nat.{ℕ}
 use lib.Dec.{eqb}
 use lib.IntN.{ℤ}
+use lib.ListN.{length}
 use borrow.Author.Tests.{ne_eqb, eqb-true, eqb-false}
-use Rattle.plan.specs.Plans.{judge_plan}
+use Rattle.numbers.specs.Numbers.{refused_length}
+use Rattle.channel.specs.declared.Channel.{Channel}
+use Rattle.list.specs.declared.ChannelList.{ChannelList}
+use Rattle.list.specs.declared.Step.{Step}
+use Rattle.list.specs.Lists.{channels, total}
+use Rattle.list.specs.Questions.{ask}
+use Rattle.plan.specs.declared.Steps.{Steps}
+use Rattle.plan.specs.Steps.{steps}
+use Rattle.plan.specs.Plans.{meant, judge_plan}
 use Rattle.record.specs.Told.{Record}
 use Rattle.record.specs.Reading.{form_of}
-use Rattle.record.specs.Records.{packed_form, read_answer, read_of}
+use Rattle.record.specs.Records.{packed_form, read_answer, read_of, channels_of, steps_of}
 use Rattle.record.proofs.Outcomes.{read_refused, form_judged, form_read}
 use Rattle.record.proofs.Readings.{read_answer_lem, read_zero, read_judged, version_is, list_back, steps_back}
+use Rattle.buffer.specs.Buffer.{zeros}
+use Rattle.runs.specs.Runs.{rebuilt, squeezed}
 use Rattle.rebuild.specs.Rebuild as B
 use Rattle.write.specs.Write as W
 use Rattle.squeeze.specs.Entry.{answer, picture_of, pyramid_of, work_of}
 
--- ---- a record that is refused: a is its answer
-module _ (bytes : List ℕ) (a : ℕ) (e : a ≡ read_answer bytes) (h : a ≡ 0 → ⊥) (p q w : List ℤ) where
-  refused_answer : a ≡ answer bytes p q w
+-- ---- a call on a plan: its answer, the slice that it fills by `run`, and the work slice
+abbrev asked : ℕ → ChannelList → Steps → List ℤ → List ℤ → List ℤ → ℕ
+asked version l s p q w =
+    ask (eqb (judge_plan version l s) 0) (judge_plan version l s)
+    (ask (eqb (length p) (total (channels l)) && (eqb (length q) (total (channels l)) && eqb (length w) (total (channels l)))) refused_length 0)
+
+abbrev filled : (List Step → List Channel → List ℤ → List ℤ) → ℕ → ChannelList → Steps → List ℤ → List ℤ → List ℤ → List ℤ
+filled run version l s p q w = cond (eqb (asked version l s p q w) 0) (run (meant version (steps s) (channels l)) (channels l) p) q
+
+abbrev worked : ℕ → ChannelList → Steps → List ℤ → List ℤ → List ℤ → List ℤ
+worked version l s p q w = cond (eqb (asked version l s p q w) 0) (zeros w) w
+
+-- the same of a record
+abbrev filled_of : (List Step → List Channel → List ℤ → List ℤ) → List ℕ → List ℤ → List ℤ → List ℤ → List ℤ
+filled_of run bytes p q w = cond (eqb (answer bytes p q w) 0) (run (steps_of bytes) (channels_of bytes) p) q
+
+module _ (run : List Step → List Channel → List ℤ → List ℤ) (bytes : List ℕ) (p q w : List ℤ) where
+  abbrev Ended : ℕ → List ℤ → List ℤ → Type 0
+  Ended a q' w' = (a ≡ answer bytes p q w) × (q' ≡ filled_of run bytes p q w) × (w' ≡ work_of bytes p q w)
+
+  -- a record that is refused: a is its answer
+  module _ (a : ℕ) (e : a ≡ read_answer bytes) (h : a ≡ 0 → ⊥) where
+    kept_answer : a ≡ answer bytes p q w
+    unfolding answer
+    kept_answer = rw (← e, ne_eqb a 0 h)
+
+    kept : Ended a q w
+    unfolding work_of
+    kept =
+        let z : eqb (answer bytes p q w) 0 ≡ false = rw (← kept_answer) (ne_eqb a 0 h) in
+        (kept_answer, rw z, rw z)
+
+  -- a record that is accepted: f is what `read_record` gives
+  same : (f : Record) → f ≡ read_of bytes → f.answer ≡ 0 → asked f.version f.list f.steps p q w ≡ answer bytes p q w
   unfolding answer
-  refused_answer = rw (← e, ne_eqb a 0 h)
+  same f e z = rw (read_judged bytes f e z, read_zero bytes f e z, list_back bytes f e z)
 
-  not_zero : eqb (answer bytes p q w) 0 ≡ false
-  not_zero = rw (← refused_answer) (ne_eqb a 0 h)
+  -- f is what `read_form` gave
+  module _ (f : Record) (e : f ≡ packed_form (form_of bytes)) where
+    refused : (f.answer ≡ 0 → ⊥) → Ended f.answer q w
+    refused h = kept f.answer (read_answer_lem bytes f (read_refused bytes f e h)) h
 
-  rebuild_kept : (a ≡ answer bytes p q w) × (q ≡ picture_of bytes p q w) × (w ≡ work_of bytes p q w)
-  unfolding picture_of work_of
-  rebuild_kept = (refused_answer, rw not_zero, rw not_zero)
+    -- a form that passes, with the plan accepted or refused
+    done : f.answer ≡ 0 → (r : ℕ) (q' w' : List ℤ)
+        → (r ≡ asked f.version f.list f.steps p q w) × (q' ≡ filled run f.version f.list f.steps p q w) × (w' ≡ worked f.version f.list f.steps p q w)
+        → Ended r q' w'
+    unfolding work_of
+    done z r q' w' h = by (eqb (judge_plan f.version f.list f.steps) 0) refl
+      where
+        by : (b : Bool) → eqb (judge_plan f.version f.list f.steps) 0 ≡ b → Ended r q' w'
+        by true t =
+            let g = form_read bytes f e z (eqb-true (judge_plan f.version f.list f.steps) 0 t) in
+            let n : asked f.version f.list f.steps p q w ≡ answer bytes p q w = same f g z in
+            (h.0 ∙ n, h.1 ∙ rw (n, version_is bytes f g z, list_back bytes f g z, steps_back bytes f g z) refl, h.2 ∙ rw n refl)
+        by false t =
+            let k = kept (judge_plan f.version f.list f.steps) (form_judged bytes f e z) (eqb-false _ 0 t) in
+            (h.0 ∙ rw t k.0, h.1 ∙ rw (t, t) k.1, h.2 ∙ rw (t, t) k.2)
 
-  write_kept : (a ≡ answer bytes p q w) × (q ≡ pyramid_of bytes p q w) × (w ≡ work_of bytes p q w)
-  unfolding pyramid_of work_of
-  write_kept = (refused_answer, rw not_zero, rw not_zero)
-
--- ---- a record that is accepted: f is what `read_record` gives
-module _ (bytes : List ℕ) (f : Record) (e : f ≡ read_of bytes) (z : f.answer ≡ 0) (p q w : List ℤ) where
-  rebuild_answer : B.answer_of f.version f.list f.steps p q w ≡ answer bytes p q w
-  unfolding B.answer_of B.slices_fit answer
-  rebuild_answer = rw (read_judged bytes f e z, read_zero bytes f e z, list_back bytes f e z)
-
-  write_answer_lem : W.answer f.version f.list f.steps p q w ≡ answer bytes p q w
-  unfolding W.answer W.slices_fit answer
-  write_answer_lem = rw (read_judged bytes f e z, read_zero bytes f e z, list_back bytes f e z)
-
-  module _ (r : ℕ) (q' w' : List ℤ) where
-    rebuild_run : (r ≡ B.answer_of f.version f.list f.steps p q w) × (q' ≡ B.picture_after f.version f.list f.steps p q w) × (w' ≡ B.work_after f.version f.list f.steps p q w)
-        → (r ≡ answer bytes p q w) × (q' ≡ picture_of bytes p q w) × (w' ≡ work_of bytes p q w)
-    unfolding B.picture_after B.work_after picture_of work_of
-    rebuild_run h =
-        (h.0 ∙ rebuild_answer, h.1 ∙ rw (rebuild_answer, version_is bytes f e z, list_back bytes f e z, steps_back bytes f e z) refl, h.2 ∙ rw rebuild_answer refl)
-
-    write_run : (r ≡ W.answer f.version f.list f.steps p q w) × (q' ≡ W.written f.version f.list f.steps p q w) × (w' ≡ W.cleared f.version f.list f.steps p q w)
-        → (r ≡ answer bytes p q w) × (q' ≡ pyramid_of bytes p q w) × (w' ≡ work_of bytes p q w)
-    unfolding W.written W.cleared pyramid_of work_of
-    write_run h =
-        (h.0 ∙ write_answer_lem, h.1 ∙ rw (write_answer_lem, version_is bytes f e z, list_back bytes f e z, steps_back bytes f e z) refl, h.2 ∙ rw write_answer_lem refl)
-
--- ---- f is what `read_form` gave
+-- ---- the plan run, and the writer: f is what `read_form` gave
 module _ (bytes : List ℕ) (f : Record) (e : f ≡ packed_form (form_of bytes)) (p q w : List ℤ) where
-  -- a form that is refused
-  module _ (h : f.answer ≡ 0 → ⊥) where
-    form_refused : f.answer ≡ read_answer bytes
-    form_refused = read_answer_lem bytes f (read_refused bytes f e h)
+  pub rebuild_refused : (f.answer ≡ 0 → ⊥) → (f.answer ≡ answer bytes p q w) × (q ≡ picture_of bytes p q w) × (w ≡ work_of bytes p q w)
+  unfolding picture_of
+  rebuild_refused = refused rebuilt bytes p q w f e
 
-    pub rebuild_refused : (f.answer ≡ answer bytes p q w) × (q ≡ picture_of bytes p q w) × (w ≡ work_of bytes p q w)
-    rebuild_refused = rebuild_kept bytes f.answer form_refused h p q w
+  pub write_refused : (f.answer ≡ 0 → ⊥) → (f.answer ≡ answer bytes p q w) × (q ≡ pyramid_of bytes p q w) × (w ≡ work_of bytes p q w)
+  unfolding pyramid_of
+  write_refused = refused squeezed bytes p q w f e
 
-    pub write_refused : (f.answer ≡ answer bytes p q w) × (q ≡ pyramid_of bytes p q w) × (w ≡ work_of bytes p q w)
-    write_refused = write_kept bytes f.answer form_refused h p q w
-
-  -- a form that passes, with the plan accepted or refused
   module _ (z : f.answer ≡ 0) (r : ℕ) (q' w' : List ℤ) where
     pub rebuild_done : (r ≡ B.answer_of f.version f.list f.steps p q w) × (q' ≡ B.picture_after f.version f.list f.steps p q w) × (w' ≡ B.work_after f.version f.list f.steps p q w)
         → (r ≡ answer bytes p q w) × (q' ≡ picture_of bytes p q w) × (w' ≡ work_of bytes p q w)
-    unfolding B.answer_of B.picture_after B.work_after
-    rebuild_done h = by (eqb (judge_plan f.version f.list f.steps) 0) refl
-      where
-        by : (b : Bool) → eqb (judge_plan f.version f.list f.steps) 0 ≡ b → (r ≡ answer bytes p q w) × (q' ≡ picture_of bytes p q w) × (w' ≡ work_of bytes p q w)
-        by true t = rebuild_run bytes f (form_read bytes f e z (eqb-true (judge_plan f.version f.list f.steps) 0 t)) z p q w r q' w' h
-        by false t =
-            let k = rebuild_kept bytes (judge_plan f.version f.list f.steps) (form_judged bytes f e z) (eqb-false _ 0 t) p q w in
-            (h.0 ∙ rw t k.0, h.1 ∙ rw (t, t) k.1, h.2 ∙ rw (t, t) k.2)
+    unfolding B.answer_of B.slices_fit B.picture_after B.work_after picture_of
+    rebuild_done = done rebuilt bytes p q w f e z r q' w'
 
     pub write_done : (r ≡ W.answer f.version f.list f.steps p q w) × (q' ≡ W.written f.version f.list f.steps p q w) × (w' ≡ W.cleared f.version f.list f.steps p q w)
         → (r ≡ answer bytes p q w) × (q' ≡ pyramid_of bytes p q w) × (w' ≡ work_of bytes p q w)
-    unfolding W.answer W.written W.cleared
-    write_done h = by (eqb (judge_plan f.version f.list f.steps) 0) refl
-      where
-        by : (b : Bool) → eqb (judge_plan f.version f.list f.steps) 0 ≡ b → (r ≡ answer bytes p q w) × (q' ≡ pyramid_of bytes p q w) × (w' ≡ work_of bytes p q w)
-        by true t = write_run bytes f (form_read bytes f e z (eqb-true (judge_plan f.version f.list f.steps) 0 t)) z p q w r q' w' h
-        by false t =
-            let k = write_kept bytes (judge_plan f.version f.list f.steps) (form_judged bytes f e z) (eqb-false _ 0 t) p q w in
-            (h.0 ∙ rw t k.0, h.1 ∙ rw (t, t) k.1, h.2 ∙ rw (t, t) k.2)
+    unfolding W.answer W.slices_fit W.written W.cleared pyramid_of
+    write_done = done squeezed bytes p q w f e z r q' w'
