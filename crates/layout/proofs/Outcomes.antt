@@ -3,7 +3,7 @@
 use mathlib.Core.Path.{◌≡◌, sym, ◌∙◌}
 use mathlib.Core.Bool.{true, false, ◌&&◌, and_assoc, and-eq-true_iff}
 use mathlib.Core.List.{List, [], ◌∷◌}
-use Prim.Native.Nat.{ℕ, ◌*◌, ◌≤◌}
+use Prim.Native.Nat.{ℕ, ◌*◌, ◌≤◌, min}
 use native.Mathlib.Omega.{arith}
 use lib.Dec.{leb}
 use lib.ListN.{length}
@@ -11,14 +11,13 @@ use borrow.Author.Tests.{ne_eqb, leb-true}
 use Rattle.numbers.specs.Numbers.{refused_length}
 use Rattle.list.specs.declared.ChannelList.{ChannelList}
 use Rattle.list.specs.Lists.{max_channels, max_steps, channels, origins}
-use Rattle.list.proofs.Channels.{origins_length}
+use Rattle.list.proofs.Channels.{channels_length, origins_length}
 use Rattle.plan.specs.declared.Steps.{Steps}
 use Rattle.plan.specs.Steps as S
 use Rattle.plan.specs.Version.{rule_of}
 use Rattle.plan.specs.Coarse.{coarse_count}
 use Rattle.plan.proofs.Answers.{steps_length}
 use Rattle.plan.proofs.Coarse.{count_laws}
-use Rattle.plan.proofs.Counts.{counted_all}
 use Rattle.record.specs.Records.{read_answer}
 use Rattle.layout.specs.Layout as Layout
 use Rattle.layout.specs.Layout.{all_steps, all_channels, Rows, rows, counts_of, rows_of, layout_of, fits, all_fit, over, all_over, answer, after}
@@ -44,40 +43,36 @@ module _ (r out : Rows) where
       → rows cs ss hs os ≡ all_over r out
   all_over_lem cs ss hs os e = λ i. rows (e.0 i) (e.1 i) (e.2 i) (e.3 i)
 
--- ---- the counts: of steps and a list in flat arrays
-module _ (version : ℕ) (s : Steps) (l : ChannelList) (few-steps : s.count ≤ max_steps) (few : l.count ≤ max_channels) where
-  step_count : s.count ≡ length (S.steps s)
-  step_count = omega (arith, steps_length s)
-
-  channel_count : l.count ≡ length (channels l)
-  channel_count = sym (counted_all l few)
-
-  origin_count : l.count ≡ length (origins l)
-  origin_count = omega (arith, origins_length l)
-
+-- ---- the counts: of steps and a list in flat arrays, where n and k are what their `len` gave
+module _ (version : ℕ) (s : Steps) (l : ChannelList) where
   -- the coarse count that was found
   module _ (coarse : ℕ) (e : coarse ≡ coarse_count (rule_of version).stop (channels l)) where
     pub coarse_few : coarse ≤ max_channels
-    coarse_few = omega (arith, e, (count_laws (rule_of version).stop (channels l)).counts.within, channel_count)
+    coarse_few = omega (arith, e, (count_laws (rule_of version).stop (channels l)).counts.within, channels_length l)
 
-    pub counts_are : version ∷ s.count ∷ l.count ∷ coarse ∷ [] ≡ counts_of version (S.steps s) (channels l)
+    pub counts_are : (n k : ℕ) → n ≡ min s.count max_steps → k ≡ min l.count max_channels
+        → version ∷ n ∷ k ∷ coarse ∷ [] ≡ counts_of version (S.steps s) (channels l)
     unfolding Layout.counts_of
-    counts_are = λ i. version ∷ step_count i ∷ channel_count i ∷ e i ∷ []
+    counts_are n k en ek =
+        let a = en ∙ sym (steps_length s) in
+        let b = ek ∙ sym (channels_length l) in
+        λ i. version ∷ a i ∷ b i ∷ e i ∷ []
 
   -- question 14, as the code asks it
-  pub room_is : (out : Rows)
-      → (((leb 4 (length out.counts) && leb (3 * s.count) (length out.steps)) && leb (4 * l.count) (length out.channels)) && leb l.count (length out.origins))
+  pub room_is : (n k : ℕ) → n ≡ min s.count max_steps → k ≡ min l.count max_channels → (out : Rows)
+      → (((leb 4 (length out.counts) && leb (3 * n) (length out.steps)) && leb (4 * k) (length out.channels)) && leb k (length out.origins))
       ≡ all_fit (rows_of version (S.steps s) (channels l) (origins l)) out
   unfolding Layout.all_fit Layout.counts_of
-  room_is out =
-      let es : 3 * s.count ≡ length (all_steps (S.steps s)) = omega (arith, step_count, Fronts.steps_length (S.steps s)) in
-      let ec : 4 * l.count ≡ length (all_channels (channels l)) = omega (arith, channel_count, Fronts.channels_length (channels l)) in
+  room_is n k en ek out =
+      let es : 3 * n ≡ length (all_steps (S.steps s)) = omega (arith, en, steps_length s, Fronts.steps_length (S.steps s)) in
+      let ec : 4 * k ≡ length (all_channels (channels l)) = omega (arith, ek, channels_length l, Fronts.channels_length (channels l)) in
+      let eo : k ≡ length (origins l) = ek ∙ sym (origins_length l) in
       let a = leb 4 (length out.counts) in
-      let b = leb (3 * s.count) (length out.steps) in
-      let c = leb (4 * l.count) (length out.channels) in
-      let d = leb l.count (length out.origins) in
+      let b = leb (3 * n) (length out.steps) in
+      let c = leb (4 * k) (length out.channels) in
+      let d = leb k (length out.origins) in
       and_assoc (a && b) c d ∙ and_assoc a b (c && d)
-      ∙ (λ i. a && (leb (es i) (length out.steps) && (leb (ec i) (length out.channels) && leb (origin_count i) (length out.origins))))
+      ∙ (λ i. a && (leb (es i) (length out.steps) && (leb (ec i) (length out.channels) && leb (eo i) (length out.origins))))
 
 -- ---- the outcomes
 module _ (bytes : List ℕ) (out : Rows) where

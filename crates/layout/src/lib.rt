@@ -85,10 +85,10 @@ fn put_entries<const N: usize, T: Numbers<N>, F: Fn(usize) -> T>(
 }
 
 fn put_steps(steps: &Steps, out: &mut [u32])
-    requires { (steps.now.count ≤ max_steps) × (length (Spec.all_steps (StepsSpec.steps steps.now)) ≤ length out.old) }
+    requires { length (Spec.all_steps (StepsSpec.steps steps.now)) ≤ length out.old }
     ensures { out.new ≡ Spec.over (Spec.all_steps (StepsSpec.steps steps.now)) out.old }
 {
-    put_entries(steps.count, |k| steps.step(k), out);
+    put_entries(steps.len(), |k| steps.step(k), out);
 }
 
 fn put_channels(list: &ChannelList, out: &mut [u32])
@@ -116,13 +116,13 @@ fn put_layout(
     channels: &mut [u32],
     origins: &mut [u32],
 )
-    requires { (meant.now.count ≤ max_steps) × (reached.now.count ≤ max_channels) × (coarse ≡ coarse_count (rule_of version).stop (Lists.channels reached.now)) × (Spec.all_fit (Spec.rows_of version (StepsSpec.steps meant.now) (Lists.channels reached.now) (Lists.origins reached.now)) (Spec.rows counts.old steps.old channels.old origins.old) ≡ true) }
+    requires { (coarse ≡ coarse_count (rule_of version).stop (Lists.channels reached.now)) × (Spec.all_fit (Spec.rows_of version (StepsSpec.steps meant.now) (Lists.channels reached.now) (Lists.origins reached.now)) (Spec.rows counts.old steps.old channels.old origins.old) ≡ true) }
     ensures { (counts.new ≡ Spec.over (Spec.counts_of version (StepsSpec.steps meant.now) (Lists.channels reached.now)) counts.old) × (steps.new ≡ Spec.over (Spec.all_steps (StepsSpec.steps meant.now)) steps.old) × (channels.new ≡ Spec.over (Spec.all_channels (Lists.channels reached.now)) channels.old) × (origins.new ≡ Spec.over (Lists.origins reached.now) origins.old) }
 {
     let numbers = [
         version,
-        meant.count as u32,
-        reached.count as u32,
+        meant.len() as u32,
+        reached.len() as u32,
         coarse as u32,
     ];
     counts[..COUNT_NUMBERS].copy_from_slice(&numbers);
@@ -143,12 +143,11 @@ pub fn layout_of(
     ensures { (answer_of result ≡ Spec.answer bytes.now (Spec.rows counts.old steps.old channels.old origins.old)) × (Spec.rows counts.new steps.new channels.new origins.new ≡ Spec.after bytes.now (Spec.rows counts.old steps.old channels.old origins.old)) }
 {
     let form = record::read_form(bytes)?;
-    let reached = form.rewrite()?;
-    let meant = form.meant_steps()?;
-    let coarse = plan::coarse_count(form.version, &reached)?;
-    let count = reached.count;
+    let plan = form.plan()?;
+    let coarse = plan::coarse_count(form.version, &plan.reached)?;
+    let count = plan.reached.len();
     let room = (COUNT_NUMBERS <= counts.len())
-        & (STEP_NUMBERS * meant.count <= steps.len())
+        & (STEP_NUMBERS * plan.steps.len() <= steps.len())
         & (CHANNEL_NUMBERS * count <= channels.len())
         & (count <= origins.len());
     if !room {
@@ -156,8 +155,8 @@ pub fn layout_of(
     }
     put_layout(
         form.version,
-        &meant,
-        &reached,
+        &plan.steps,
+        &plan.reached,
         coarse,
         counts,
         steps,

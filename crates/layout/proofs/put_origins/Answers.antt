@@ -1,5 +1,5 @@
 -- `put_origins` meets its contract: each entry is the origin of its index (proofs/Entries.antt). Assumes nothing.
-use Rattle.std.proofs.Common.{◌≡◌, ◌-◌, ◌∙◌, ap, get_or, rules}
+use Rattle.std.proofs.Common.{◌≡◌, [], ◌∷◌, ◌-◌, ◌∙◌, ap, get_or, rules}
 use native.Mathlib.Omega.{arith}
 use Rattle.list.specs.Tables.{table}
 use Rattle.list.specs.Lists as Lists
@@ -20,5 +20,5 @@ unfolding Lists.origins
 returns c =
     let l = c.args.list.now in
     let z : c.len.result - 0 ≡ c.len.result = omega arith in
-    entries_all _ _ (λ k. get_or l.origins k 0) _ _ _ _ (ap (table (λ k. get_or l.origins k 0) 0) (z ∙ c.len.ensures)) (λ k x h p. search rules) c.put_entries.ensures
+    entries_all (λ o. o ∷ []) _ (λ k. get_or l.origins k 0) _ _ _ _ (ap (table (λ k. get_or l.origins k 0) 0) (z ∙ c.len.ensures)) (λ k x h p. search rules) c.put_entries.ensures
     ∙ ap (λ xs. over xs c.args.out.now) (joined_ones (origins l))

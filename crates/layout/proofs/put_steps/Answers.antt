@@ -1,12 +1,9 @@
 -- `put_steps` meets its contract: each entry is the step of its index (proofs/Entries.antt). Assumes nothing.
 use native.Mathlib.Omega.{arith}
 use borrow.Author.Rules.{rules}
-use Rattle.list.specs.Lists.{max_steps}
 use Rattle.plan.specs.Steps.{step_at, steps}
 use Rattle.plan.proofs.Answers.{steps_length}
 use Rattle.record.proofs.Placed.{steps_all}
-use Prim.Native.Nat.{min}
-use mathlib.Core.Path.{◌≡◌}
 use Rattle.layout.proofs.Entries.{entries_all}
 use Rattle.layout.proofs.Fronts as Fronts
 use Rattle.layout.proofs.put_steps.Goals as goal
@@ -14,10 +11,9 @@ use Rattle.layout.proofs.put_steps.Goals as goal
 pub put_entries-requires-clause-room : goal.put_entries-requires-clause-room
 put_entries-requires-clause-room c =
     let l = c.args.steps.now in
-    omega (arith, Fronts.steps_length (steps l), steps_length l)
+    omega (arith, c.len.ensures, c.requires, Fronts.steps_length (steps l), steps_length l)
 
 pub returns : goal.returns
 returns c =
     let l = c.args.steps.now in
-    let n : l.count ≡ min l.count max_steps = omega (arith, c.requires.0) in
-    entries_all _ _ (step_at l) _ _ _ _ (steps_all l _ n) (λ k x h p. search rules) c.put_entries.ensures
+    entries_all _ _ (step_at l) _ _ _ _ (steps_all l _ c.len.ensures) (λ k x h p. search rules) c.put_entries.ensures
