@@ -17,7 +17,7 @@ use channel::Channel;
 use list::{ChannelList, Step};
 use numbered::{CHANNEL_NUMBERS, STEP_NUMBERS};
 use numbers::Refusal;
-use plan::Steps;
+use plan::{Plan, Steps};
 
 // Version, steps, channels and coarse channels.
 const COUNT_NUMBERS: usize = 4;
@@ -108,27 +108,26 @@ fn put_origins(list: &ChannelList, out: &mut [u32])
 // The rows of a layout that fit the slices; `coarse` channels are coarse.
 fn put_layout(
     version: u32,
-    meant: &Steps,
-    reached: &ChannelList,
+    plan: &Plan,
     coarse: usize,
     counts: &mut [u32],
     steps: &mut [u32],
     channels: &mut [u32],
     origins: &mut [u32],
 )
-    requires { (coarse ≡ coarse_count (rule_of version).stop (Lists.channels reached.now)) × (Spec.all_fit (Spec.rows_of version (StepsSpec.steps meant.now) (Lists.channels reached.now) (Lists.origins reached.now)) (Spec.rows counts.old steps.old channels.old origins.old) ≡ true) }
-    ensures { (counts.new ≡ Spec.over (Spec.counts_of version (StepsSpec.steps meant.now) (Lists.channels reached.now)) counts.old) × (steps.new ≡ Spec.over (Spec.all_steps (StepsSpec.steps meant.now)) steps.old) × (channels.new ≡ Spec.over (Spec.all_channels (Lists.channels reached.now)) channels.old) × (origins.new ≡ Spec.over (Lists.origins reached.now) origins.old) }
+    requires { (coarse ≡ coarse_count (rule_of version).stop (Lists.channels plan.now.reached)) × (Spec.all_fit (Spec.rows_of version (StepsSpec.steps plan.now.steps) (Lists.channels plan.now.reached) (Lists.origins plan.now.reached)) (Spec.rows counts.old steps.old channels.old origins.old) ≡ true) }
+    ensures { (counts.new ≡ Spec.over (Spec.counts_of version (StepsSpec.steps plan.now.steps) (Lists.channels plan.now.reached)) counts.old) × (steps.new ≡ Spec.over (Spec.all_steps (StepsSpec.steps plan.now.steps)) steps.old) × (channels.new ≡ Spec.over (Spec.all_channels (Lists.channels plan.now.reached)) channels.old) × (origins.new ≡ Spec.over (Lists.origins plan.now.reached) origins.old) }
 {
     let numbers = [
         version,
-        meant.len() as u32,
-        reached.len() as u32,
+        plan.steps.len() as u32,
+        plan.reached.len() as u32,
         coarse as u32,
     ];
     counts[..COUNT_NUMBERS].copy_from_slice(&numbers);
-    put_steps(meant, steps);
-    put_channels(reached, channels);
-    put_origins(reached, origins);
+    put_steps(&plan.steps, steps);
+    put_channels(&plan.reached, channels);
+    put_origins(&plan.reached, origins);
 }
 
 // The layout of the record in `bytes`: over the fronts of the slices the four
@@ -155,8 +154,7 @@ pub fn layout_of(
     }
     put_layout(
         form.version,
-        &plan.steps,
-        &plan.reached,
+        &plan,
         coarse,
         counts,
         steps,

@@ -33,8 +33,8 @@ unfolding listing plan_text
 listing_read bytes z = rw z
 
 -- coarse channels are channels of the list
-pub coarse_within : (stop : ℕ) (l : ChannelList) → l.count ≤ max_channels → coarse_count stop (channels l) ≤ max_channels
-coarse_within stop l few = omega (arith, (count_laws stop (channels l)).counts.within, channels_length l)
+pub coarse_within : (stop : ℕ) (l : ChannelList) → coarse_count stop (channels l) ≤ max_channels
+coarse_within stop l = omega (arith, (count_laws stop (channels l)).counts.within, channels_length l)
 
 pub listing_refused : (bytes : List ℕ) (a : ℕ) → a ≡ read_answer bytes → (a ≡ 0 → ⊥) → numbered refused_word a ≡ listing bytes
 unfolding listing

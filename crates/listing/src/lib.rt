@@ -19,7 +19,7 @@ use channel::Channel;
 use itoa::Buffer;
 use list::{ChannelList, Step};
 use numbers::Refusal;
-use plan::Steps;
+use plan::{Plan, Steps};
 
 // Room for any listing: at most 64 step lines and 256 channel lines.
 pub const LISTING_ROOM: usize = 8192;
@@ -111,32 +111,32 @@ fn put_channel(c: Channel, page: &mut Page)
 }
 
 fn put_steps(steps: &Steps, page: &mut Page)
-    requires { (steps.now.count ≤ max_steps) × Fits page.old.bytes (Text.step_lines (StepsSpec.steps steps.now)) }
+    requires { Fits page.old.bytes (Text.step_lines (StepsSpec.steps steps.now)) }
     ensures { page.new.bytes ≡ page.old.bytes ++ Text.step_lines (StepsSpec.steps steps.now) }
 {
-    for k in 0..steps.count {
+    for k in 0..steps.len() {
         put_step(steps.step(k), page);
     }
 }
 
 fn put_channels(list: &ChannelList, page: &mut Page)
-    requires { (list.now.count ≤ max_channels) × (all sides_fit (channels list.now) ≡ true) × Fits page.old.bytes (Text.channel_lines (channels list.now)) }
+    requires { (all sides_fit (channels list.now) ≡ true) × Fits page.old.bytes (Text.channel_lines (channels list.now)) }
     ensures { page.new.bytes ≡ page.old.bytes ++ Text.channel_lines (channels list.now) }
 {
-    for k in 0..list.count {
+    for k in 0..list.len() {
         put_channel(list.channel(k), page);
     }
 }
 
 // The lines of a plan's steps and of the list that it leaves, and the coarse count.
-fn put_plan(steps: &Steps, list: &ChannelList, coarse: usize, page: &mut Page)
-    requires { (steps.now.count ≤ max_steps) × (list.now.count ≤ max_channels) × (all sides_fit (channels list.now) ≡ true) × (coarse ≤ max_channels) × Fits page.old.bytes (Spec.lines_text (StepsSpec.steps steps.now) (channels list.now) coarse) }
-    ensures { page.new.bytes ≡ page.old.bytes ++ Spec.lines_text (StepsSpec.steps steps.now) (channels list.now) coarse }
+fn put_plan(plan: &Plan, coarse: usize, page: &mut Page)
+    requires { (all sides_fit (channels plan.now.reached) ≡ true) × (coarse ≤ max_channels) × Fits page.old.bytes (Spec.lines_text (StepsSpec.steps plan.now.steps) (channels plan.now.reached) coarse) }
+    ensures { page.new.bytes ≡ page.old.bytes ++ Spec.lines_text (StepsSpec.steps plan.now.steps) (channels plan.now.reached) coarse }
 {
-    put_numbered("steps ", steps.count, page);
-    put_steps(steps, page);
-    put_numbered("channels ", list.count, page);
-    put_channels(list, page);
+    put_numbered("steps ", plan.steps.len(), page);
+    put_steps(&plan.steps, page);
+    put_numbered("channels ", plan.reached.len(), page);
+    put_channels(&plan.reached, page);
     put_numbered("coarse ", coarse, page);
 }
 
@@ -149,10 +149,9 @@ fn put_record(bytes: &[u8], page: &mut Page) -> Result<(), Refusal>
     ensures kept { OnErr result (page.new ≡ page.old) }
 {
     let form = record::read_form(bytes)?;
-    let reached = form.rewrite()?;
-    let meant = form.meant_steps()?;
-    let coarse = plan::coarse_count(form.version, &reached)?;
-    put_plan(&meant, &reached, coarse, page);
+    let plan = form.plan()?;
+    let coarse = plan::coarse_count(form.version, &plan.reached)?;
+    put_plan(&plan, coarse, page);
     Ok(())
 }
 
@@ -167,7 +166,9 @@ fn put_listing(bytes: &[u8], page: &mut Page)
 
 // The listing of an accepted record over the front of `text`, and its length as
 // the first of `size`; the rest of both stays. A text of `LISTING_ROOM` bytes has
-// room for every listing.
+// room for every listing. The length goes to a lent slice, as the C function has it,
+// and is no result: question 14 asks for its room before a byte is written, since a
+// refusal changes nothing.
 pub fn list_record(bytes: &[u8], text: &mut [u8], size: &mut [u32]) -> Result<(), Refusal>
     ensures { (answer_of result ≡ Spec.list_answer bytes.now text.old size.old) × (text.new ≡ Spec.text_after bytes.now text.old size.old) × (size.new ≡ Spec.size_after bytes.now text.old size.old) }
 {

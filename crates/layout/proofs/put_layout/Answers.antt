@@ -9,7 +9,7 @@ use Rattle.layout.proofs.put_layout.Goals as goal
 
 pub overflow_cast-numbers-3 : goal.overflow_cast-numbers-3
 overflow_cast-numbers-3 c =
-    let few = coarse_few c.args.version c.args.meant.now c.args.reached.now c.args.coarse c.requires.0 in
+    let few = coarse_few c.args.version c.args.plan.now.steps c.args.plan.now.reached c.args.coarse c.requires.0 in
     record { fits = omega arith }
 
 pub slice_bounds-copy_from_slice-end : goal.slice_bounds-copy_from_slice-end
@@ -40,6 +40,6 @@ put_origins-requires c = (fit_each _ _ c.requires.1).origins
 pub returns : goal.returns
 returns c =
     let out = c.args.counts.now in
-    let counted = counts_are c.args.version c.args.meant.now c.args.reached.now c.args.coarse c.requires.0 _ _ c.len.ensures c.len-2.ensures in
+    let counted = counts_are c.args.version c.args.plan.now.steps c.args.plan.now.reached c.args.coarse c.requires.0 _ _ c.len.ensures c.len-2.ensures in
     let put = ap (λ (xs : List ℕ). xs ++ drop 4 out) c.copy_from_slice.ensures.after ∙ ap (λ (xs : List ℕ). Layout.over xs out) counted in
     (put, c.put_steps.ensures, c.put_channels.ensures, c.put_origins.ensures)

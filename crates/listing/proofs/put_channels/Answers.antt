@@ -11,9 +11,9 @@ pub put_channel-requires : goal.put_channel-requires
 put_channel-requires c =
     let l = c.args.list.now in
     let e = ap channel_line c.channel.ensures in
-    let all = rw (← channels_are l c.requires.0) at c.requires.2 in
+    let all = rw (← channels_are l _ c.len-k-end.ensures) at c.requires.1 in
     let room = line_fits channel_line (channel_at l) _ _ _ _ c.loop-k.invariant c.loop-k-test.true all in
-    let fit = channel_fits l c.requires.0 c.requires.1 _ c.loop-k-test.true in
+    let fit = channel_fits l _ c.len-k-end.ensures c.requires.0 _ c.loop-k-test.true in
     (rw (← c.channel.ensures) at fit, rw (← e) at room)
 
 pub loop-k-preserved : goal.loop-k-preserved
@@ -26,4 +26,4 @@ pub returns : goal.returns
 returns c =
     let l = c.args.list.now in
     let all = lines_all channel_line (channel_at l) _ _ _ _ c.loop-k.invariant c.loop-k-test.false in
-    rw (ap (joined channel_line) (channels_are l c.requires.0)) at all
+    rw (ap (joined channel_line) (channels_are l _ c.len-k-end.ensures)) at all

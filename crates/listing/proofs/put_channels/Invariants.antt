@@ -5,4 +5,4 @@ use Rattle.listing.proofs.Puts.{Lines}
 use Rattle.listing.proofs.put_channels.Given as goal
 
 abbrev pub invariant-loop-k : goal.invariant-loop-k
-invariant-loop-k l = Lines channel_line (channel_at l.list) l.list.count l.initial.page.bytes l.page.bytes l.k
+invariant-loop-k l = Lines channel_line (channel_at l.list) l.k-end l.initial.page.bytes l.page.bytes l.k

@@ -11,7 +11,7 @@ pub put_step-requires : goal.put_step-requires
 put_step-requires c =
     let l = c.args.steps.now in
     let e = ap step_line c.step.ensures in
-    let all = rw (← steps_are l c.requires.0) at c.requires.1 in
+    let all = rw (← steps_are l _ c.len-k-end.ensures) at c.requires in
     let room = line_fits step_line (step_at l) _ _ _ _ c.loop-k.invariant c.loop-k-test.true all in
     rw (← e) at room
 
@@ -25,4 +25,4 @@ pub returns : goal.returns
 returns c =
     let l = c.args.steps.now in
     let all = lines_all step_line (step_at l) _ _ _ _ c.loop-k.invariant c.loop-k-test.false in
-    rw (ap (joined step_line) (steps_are l c.requires.0)) at all
+    rw (ap (joined step_line) (steps_are l _ c.len-k-end.ensures)) at all

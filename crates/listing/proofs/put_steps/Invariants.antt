@@ -5,4 +5,4 @@ use Rattle.listing.proofs.Puts.{Lines}
 use Rattle.listing.proofs.put_steps.Given as goal
 
 abbrev pub invariant-loop-k : goal.invariant-loop-k
-invariant-loop-k l = Lines step_line (step_at l.steps) l.steps.count l.initial.page.bytes l.page.bytes l.k
+invariant-loop-k l = Lines step_line (step_at l.steps) l.k-end l.initial.page.bytes l.page.bytes l.k
