@@ -2,23 +2,23 @@
 use mathlib.Core.Path.{◌≡◌, sym, ◌∙◌}
 use mathlib.Core.Bool.{true, false, ◌&&◌, and-eq-true_iff}
 use mathlib.Core.List.{List}
-use Prim.Native.Nat.{ℕ}
+use Prim.Native.Nat.{ℕ, ◌≤◌}
 use borrow.Author.Tests.{ne_eqb, eqb-true}
 use lib.Dec.{eqb}
 use lib.IntN.{ℤ}
 use lib.ListN.{length}
 use Rattle.channel.specs.declared.Channel.{Channel}
 use Rattle.list.specs.declared.ChannelList.{ChannelList}
-use Rattle.list.specs.Lists.{channels, total}
-use Rattle.list.specs.Questions.{counted_total}
+use Rattle.list.specs.Lists.{max_steps, channels, total}
+use Rattle.list.specs.Questions.{judge_list, counted_total}
 use Rattle.plan.specs.declared.Steps.{Steps}
 use Rattle.plan.specs.Steps.{steps}
-use Rattle.plan.specs.Plans.{Planned, judge_plan, meant, meant_steps}
-use Rattle.plan.proofs.Runs.{none_refused}
-use Rattle.plan.proofs.Answers.{meaning_answer, plan_meaning}
-use Rattle.plan.proofs.Judged.{judged_total}
+use Rattle.plan.specs.Plans.{Planned, judge_plan, judge_steps, meant, meant_steps}
+use Rattle.plan.proofs.Judged.{judged_list, judged_total, meant_judged, meant_is}
 use Rattle.runs.specs.Runs.{squeezed}
 use Rattle.buffer.specs.Buffer.{zeros}
+use Rattle.buffer.proofs.Overwritten.{zeros_same}
+use Rattle.write.specs.Standing.{Alike}
 use Rattle.write.specs.Write.{slices_fit, answer, written, cleared}
 
 -- ---- the slices
@@ -36,11 +36,6 @@ fit_lengths cs picture pyramid work e =
     let b = (and-eq-true_iff (eqb (length pyramid) (total cs)) (eqb (length work) (total cs))).0 a.1 in
     (eqb-true (length picture) (total cs) a.0, eqb-true (length pyramid) (total cs) b.0, eqb-true (length work) (total cs) b.1)
 
--- ---- the steps that are meant
--- p is what `meant_steps` gave
-pub meant_found : (version : ℕ) (l : ChannelList) (s : Steps) → judge_plan version l s ≡ 0 → (p : Planned) → p ≡ meant_steps version l s → p.answer ≡ 0
-meant_found version l s ok p e = meaning_answer version l s p e ∙ (none_refused _ _ (sym (plan_meaning version l s) ∙ ok)).0
-
 -- ---- the results
 module _ (version : ℕ) (l : ChannelList) (s : Steps) (picture pyramid work : List ℤ) where
   abbrev Results : ℕ → List ℤ → List ℤ → Type 0
@@ -53,11 +48,36 @@ module _ (version : ℕ) (l : ChannelList) (s : Steps) (picture pyramid work : L
       let n = ne_eqb a 0 h in
       (rw (← e, n), rw (← e, n, n), rw (← e, n, n))
 
-  pub slices_refused : judge_plan version l s ≡ 0 → slices_fit (channels l) picture pyramid work ≡ false → Results 12 pyramid work
-  unfolding answer written cleared
-  slices_refused e h = (rw (e, h), rw (e, h), rw (e, h))
+  -- a is the plan's answer, and t what `total` gave
+  module _ (a : ℕ) (ea : a ≡ judge_plan version l s) (ok : a ≡ 0) (t : ℕ) (et : t ≡ counted_total (channels l)) where
+    judged : judge_plan version l s ≡ 0
+    judged = sym ea ∙ ok
 
-  pub accepted : judge_plan version l s ≡ 0 → slices_fit (channels l) picture pyramid work ≡ true → (ys ws : List ℤ)
-      → ys ≡ squeezed (meant version (steps s) (channels l)) (channels l) picture → ws ≡ zeros work → Results 0 ys ws
-  unfolding answer written cleared
-  accepted e h ys ws ey ew = (rw (e, h), rw (e, h) ey, rw (e, h) ew)
+    tested : eqb (length picture) t && (eqb (length pyramid) t && eqb (length work) t) ≡ slices_fit (channels l) picture pyramid work
+    tested = fit_tested version l s judged t et picture pyramid work
+
+    pub slices_refused : eqb (length picture) t && (eqb (length pyramid) t && eqb (length work) t) ≡ false → Results 12 pyramid work
+    unfolding answer written cleared
+    slices_refused h =
+        let e = judged in
+        let f = sym tested ∙ h in
+        (rw (e, f), rw (e, f), rw (e, f))
+
+    -- m holds the steps that are meant
+    module _ (h : eqb (length picture) t && (eqb (length pyramid) t && eqb (length work) t) ≡ true) (m : Planned) (em : m ≡ meant_steps version l s) (room : m.steps.count ≤ max_steps) where
+      pub run_asks : (judge_list l ≡ 0) × (judge_steps (steps m.steps) (channels l) ≡ 0) × (length picture ≡ total (channels l)) × Alike picture pyramid work
+      run_asks =
+          let n = fit_lengths (channels l) picture pyramid work (sym tested ∙ h) in (
+            judged_list version l s judged,
+            rw (meant_is version l s judged m em room) (meant_judged version l s judged),
+            n.0,
+            record { odds_length = n.1 ∙ sym n.0; evens_length = n.2 ∙ sym n.0 },
+          )
+
+      pub accepted : (ys used ws : List ℤ) → ys ≡ squeezed (steps m.steps) (channels l) picture → length used ≡ length work → ws ≡ zeros used → Results 0 ys ws
+      unfolding answer written cleared
+      accepted ys used ws ey eu ew =
+          let e = judged in
+          let f = sym tested ∙ h in
+          let done : ys ≡ squeezed (meant version (steps s) (channels l)) (channels l) picture = rw (meant_is version l s judged m em room) at ey in
+          (rw (e, f), rw (e, f) done, rw (e, f) (ew ∙ zeros_same used work eu))

@@ -11,7 +11,7 @@ use Rattle.numbers.specs.Numbers.{max_samples}
 use Rattle.channel.specs.declared.Channel.{Channel}
 use Rattle.channel.specs.Channel.{samples}
 use Rattle.list.specs.declared.ChannelList.{ChannelList}
-use Rattle.list.specs.Lists.{max_steps, channels, total}
+use Rattle.list.specs.Lists.{channels, total}
 use Rattle.list.specs.Questions as Questions
 use Rattle.list.specs.Questions.{judge_list}
 use Rattle.list.proofs.Acceptance.{list_accepted}
@@ -44,15 +44,15 @@ held_from picture odds evens at (c ∷ cs) h =
     rw (b, held_from picture odds evens (at + n) cs (omega arith)) (part_more at n (total cs) picture)
 
 -- what the steps start from
-pub first_running : (l : ChannelList) (s : Steps) (picture odds evens : List ℤ) → judge_list l ≡ 0 → s.count ≤ max_steps
+pub first_running : (l : ChannelList) (s : Steps) (picture odds evens : List ℤ) → judge_list l ≡ 0
     → judge_steps (steps s) (channels l) ≡ 0 → length picture ≡ total (channels l) → Alike picture odds evens
     → (ps : List Place) → ps ≡ places_from 0 (channels l) → Running (channels l) s picture ps odds evens 0
 unfolding Questions.total_allowed Laid.part
-first_running l s picture odds evens ok few judged long alike ps e =
+first_running l s picture odds evens ok judged long alike ps e =
     let fine = list_accepted l ok in
     let t = leb-true (total (channels l)) max_samples fine.samples in
     let h : joined (held picture odds evens (places_from 0 (channels l))) ≡ picture =
     held_from picture odds evens 0 (channels l) (omega arith) ∙ take_all (total (channels l)) picture (omega arith) in
     rw e
-    (running_none (channels l) s picture (places_from 0 (channels l)) odds evens fine few judged long (from_sided 0 (channels l))
+    (running_none (channels l) s picture (places_from 0 (channels l)) odds evens fine judged long (from_sided 0 (channels l))
     (rw long (from_laid (channels l) t)) alike h)

@@ -11,7 +11,7 @@ use Rattle.channel.specs.Channel.{sides_fit}
 use Rattle.list.specs.declared.Step.{Step}
 use Rattle.list.specs.Tables.{table, padded, map}
 use Rattle.list.specs.Lists.{max_channels}
-use Rattle.list.proofs.Tables.{table_length, table_at, table_first}
+use Rattle.list.proofs.Tables.{table_length, table_at, table_first, table_same}
 use Rattle.places.specs.declared.Place.{Place}
 use Rattle.places.specs.declared.Places.{Places}
 use Rattle.places.specs.Places as Specs
@@ -22,7 +22,6 @@ use Rattle.places.proofs.Laid.{starts_at}
 use Rattle.runs.specs.Parts.{joined}
 use Rattle.write.specs.Standing.{lying, held, Ranged, Fitting, Squeezed, Full}
 use Rattle.write.specs.Settled.{Cleared, Starting, settled}
-use Rattle.write.proofs.Tables.{table_same}
 
 module _ (p : Places) where
   -- ---- entries

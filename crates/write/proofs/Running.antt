@@ -70,7 +70,7 @@ module _ (picture odds evens : List ℤ) (alike : Alike picture odds evens) wher
 
 -- ---- the run
 abbrev left : Steps → ℕ → List Step
-left s k = table (step_at s) k (s.count - k)
+left s k = table (step_at s) k (min s.count max_steps - k)
 
 -- a list is reached, with these places, and the steps from k on are left
 pub record Running (l : List Channel) (s : Steps) (picture : List ℤ) (ps : List Place) (odds evens : List ℤ) (k : ℕ) : Type 0 where
@@ -84,12 +84,12 @@ pub record Running (l : List Channel) (s : Steps) (picture : List ℤ) (ps : Lis
   pub so : squeezed (left s k) cs (joined (held picture odds evens ps)) ≡ squeezed (steps s) l picture
 
 module _ (l : List Channel) (s : Steps) (picture : List ℤ) where
-  pub running_none : (ps : List Place) (odds evens : List ℤ) → Accepted l → s.count ≤ max_steps → judge_steps (steps s) l ≡ 0 → length picture ≡ total l
+  pub running_none : (ps : List Place) (odds evens : List ℤ) → Accepted l → judge_steps (steps s) l ≡ 0 → length picture ≡ total l
       → Sided l ps → Laid (length picture) ps → Alike picture odds evens → joined (held picture odds evens ps) ≡ picture
       → Running l s picture ps odds evens 0
   unfolding S.steps
-  running_none ps odds evens fine few judged long sided laid alike e =
-      let z : s.count - 0 ≡ min s.count max_steps = omega arith in
+  running_none ps odds evens fine judged long sided laid alike e =
+      let z : min s.count max_steps - 0 ≡ min s.count max_steps = omega arith in
       record { cs = l; fine = fine; judged = rw z judged; same = sym long; sided = sided; laid = laid; alike = alike; so = rw (z, e) }
 
   pub small : (ps : List Place) (odds evens : List ℤ) (k : ℕ) → Running l s picture ps odds evens k → length picture ≤ max_samples
@@ -97,9 +97,9 @@ module _ (l : List Channel) (s : Steps) (picture : List ℤ) where
   small ps odds evens k w = let t = leb-true (total w.cs) max_samples w.fine.samples in omega (arith, w.same)
 
   -- step x is the one at k
-  module _ (ps : List Place) (odds evens : List ℤ) (k : ℕ) (w : Running l s picture ps odds evens k) (h : k < s.count) (x : Step) (ex : x ≡ step_at s k) where
+  module _ (ps : List Place) (odds evens : List ℤ) (k : ℕ) (w : Running l s picture ps odds evens k) (h : k < min s.count max_steps) (x : Step) (ex : x ≡ step_at s k) where
     split : left s k ≡ x ∷ left s (k + 1)
-    split = rw ex (table_rest (step_at s) k s.count h)
+    split = rw ex (table_rest (step_at s) k (min s.count max_steps) h)
 
     apart : (judge_step x w.cs ≡ 0) × (judge_steps (left s (k + 1)) (stepped x w.cs) ≡ 0)
     apart = none_refused (judge_step x w.cs) (judge_steps (left s (k + 1)) (stepped x w.cs)) (rw split at w.judged)
@@ -137,6 +137,6 @@ module _ (l : List Channel) (s : Steps) (picture : List ℤ) where
           so = rw (ep, ← t) (rw (split, apart.0) at w.so);
         }
 
-  pub running_all : (ps : List Place) (odds evens : List ℤ) (k : ℕ) → s.count ≤ k → Running l s picture ps odds evens k
+  pub running_all : (ps : List Place) (odds evens : List ℤ) (k : ℕ) → min s.count max_steps ≤ k → Running l s picture ps odds evens k
       → joined (held picture odds evens ps) ≡ squeezed (steps s) l picture
-  running_all ps odds evens k h w = rw (table_none (step_at s) k s.count h) at w.so
+  running_all ps odds evens k h w = rw (table_none (step_at s) k (min s.count max_steps) h) at w.so

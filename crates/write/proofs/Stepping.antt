@@ -16,6 +16,7 @@ use Rattle.list.specs.declared.Step.{Step}
 use Rattle.list.specs.Tables.{map}
 use Rattle.list.specs.Lists.{range}
 use Rattle.list.specs.Questions.{channel_of}
+use Rattle.list.proofs.Entries.{length_range}
 use Rattle.line.specs.Forward.{average_count}
 use Rattle.places.specs.Places as Places
 use Rattle.places.specs.declared.Place.{Place}
@@ -128,10 +129,10 @@ module _ (s : Step) (cs : List Channel) (ps : List Place) (inside : s.begin + s.
   ranged = take s.number (drop s.begin ps)
 
   ranged_length : length ranged ≡ s.number
-  ranged_length = simp (length-take, length-drop) (omega arith)
+  ranged_length = length_range s ps inside
 
   range_length : length (range s cs) ≡ s.number
-  range_length = let l = sided.long in simp (length-take, length-drop) (omega arith)
+  range_length = let l = sided.long in length_range s cs (omega arith)
 
   module _ (i : ℕ) (h : i < s.number) where
     place_in : place_of ranged i ≡ place_of ps (s.begin + i)

@@ -33,8 +33,3 @@ pub joined_more : (f : ℕ → List ℤ) (k : ℕ) → joined (table f 0 (k + 1)
 joined_more f k =
     let z : 0 + k ≡ k = omega arith in
     rw (table_join f 0 k 1, z) (joined_append (table f 0 k) (f k ∷ []) ∙ rw (append-nil (f k)))
-
--- ---- equal tables
-pub table_same {ℓ} : {A : Type ℓ} (f g : ℕ → A) (k n : ℕ) → ((j : ℕ) → k ≤ j → j < k + n → f j ≡ g j) → table f k n ≡ table g k n
-table_same f g k zero e = refl
-table_same f g k (suc n) e = rw (e k (omega arith) (omega arith), table_same f g (suc k) n (λ j l h. e j (omega arith) (omega arith)))

@@ -6,10 +6,10 @@
 // call leaves the slices untouched.
 #![tactic(auto)]
 
-ghost use Rattle.std.specs.Prelude.{◌≡◌, true, ◌+◌, ◌≤◌, length};
+ghost use Rattle.std.specs.Prelude.{◌≡◌, true, ◌+◌, ◌≤◌, length, min};
 ghost use Rattle.numbers.specs.Numbers as Numbers;
 ghost use Rattle.channel.specs.Channel.{sides_fit};
-ghost use Rattle.list.specs.Lists.{max_channels, max_steps, channels, total};
+ghost use Rattle.list.specs.Lists.{max_channels, channels, total};
 ghost use Rattle.list.specs.Questions.{judge_list};
 ghost use Rattle.places.specs.Places.{area, bare, place_at, places_in};
 ghost use Rattle.places.specs.Laid.{part, written};
@@ -60,13 +60,11 @@ fn squeeze_place(place: Place, horizontal: bool, picture: &[i32], odd: &mut [i32
 
 // The channels of a step's range.
 fn squeeze_step(step: Step, places: &Places, picture: &[i32], odd: &mut [i32], even: &mut [i32])
-    requires { Alike picture.now odd.old even.old × (step.begin + step.number ≤ max_channels) × Ranged (length picture.now) (place_at places.now) step.begin (step.begin + step.number) × Fitting (place_at places.now) step.begin (step.begin + step.number) }
+    requires { Alike picture.now odd.old even.old × Ranged (length picture.now) (place_at places.now) step.begin (step.begin + step.number) × Fitting (place_at places.now) step.begin (step.begin + step.number) }
     ensures { Squeezed step.horizontal (place_at places.now) step.begin (step.begin + step.number) picture.now odd.old even.old odd.new even.new }
 {
     let horizontal = step.horizontal;
-    let begin = step.begin as usize;
-    let end = begin + step.number as usize;
-    for k in begin..end {
+    for k in step.begin as usize..step.end() {
         squeeze_place(places.at(k), horizontal, picture, odd, even);
     }
 }
@@ -80,11 +78,11 @@ fn squeeze_steps(
     odd: &mut [i32],
     even: &mut [i32],
 ) -> Places
-    requires { (judge_list list.now ≡ 0) × (steps.now.count ≤ max_steps) × (judge_steps (Spec.steps steps.now) (channels list.now) ≡ 0) × (length picture.now ≡ total (channels list.now)) × Alike picture.now odd.old even.old }
+    requires { (judge_list list.now ≡ 0) × (judge_steps (Spec.steps steps.now) (channels list.now) ≡ 0) × (length picture.now ≡ total (channels list.now)) × Alike picture.now odd.old even.old }
     ensures { Reached list.now steps.now result.count (places_in result) picture.now odd.new even.new }
 {
     let mut places = Places::lay(list);
-    for k in 0..steps.count {
+    for k in 0..steps.len() {
         let step = steps.step(k);
         squeeze_step(step, &places, picture, odd, even);
         places.step(step);
@@ -112,12 +110,14 @@ fn clear_place(place: Place, start: usize, pyramid: &[i32], work: &mut [i32])
     }
 }
 
-// Every channel, so that nothing is lost when the pyramid is written.
+// Every channel, so that nothing is lost when the pyramid is written. The starts lie in
+// an array of their own: two loops read them, and either would have to count them anew,
+// since each is the sum of all areas before it.
 fn clear_way(places: &Places, starts: &[usize; 256], pyramid: &[i32], work: &mut [i32])
-    requires { (places.now.count ≤ max_channels) × (length work.old ≡ length pyramid.now) × Ranged (length pyramid.now) (place_at places.now) 0 places.now.count }
-    ensures { Cleared places.now.count (place_at places.now) starts.now pyramid.now work.old work.new }
+    requires { (length work.old ≡ length pyramid.now) × Ranged (length pyramid.now) (place_at places.now) 0 (min places.now.count max_channels) }
+    ensures { Cleared (min places.now.count max_channels) (place_at places.now) starts.now pyramid.now work.old work.new }
 {
-    for k in 0..places.count {
+    for k in 0..places.len() {
         clear_place(places.at(k), starts[k], pyramid, work);
     }
 }
@@ -144,10 +144,10 @@ fn settle(
     work: &[i32],
     pyramid: &mut [i32],
 )
-    requires { (places.now.count ≤ max_channels) × Alike picture.now pyramid.old work.now × Starting (length picture.now) places.now.count (place_at places.now) starts.now }
-    ensures { pyramid.new ≡ settled picture.now pyramid.old work.now (place_at places.now) starts.now places.now.count }
+    requires { Alike picture.now pyramid.old work.now × Starting (length picture.now) (min places.now.count max_channels) (place_at places.now) starts.now }
+    ensures { pyramid.new ≡ settled picture.now pyramid.old work.now (place_at places.now) starts.now (min places.now.count max_channels) }
 {
-    for k in 0..places.count {
+    for k in 0..places.len() {
         settle_place(places.at(k), starts[k], picture, work, pyramid);
     }
 }
@@ -166,7 +166,7 @@ fn finish(places: &Places, picture: &[i32], pyramid: &mut [i32], work: &mut [i32
 // The steps on the picture of a list, the pyramid as the odd slice and the work
 // slice as the even one.
 fn run(list: &ChannelList, steps: &Steps, picture: &[i32], pyramid: &mut [i32], work: &mut [i32])
-    requires { (judge_list list.now ≡ 0) × (steps.now.count ≤ max_steps) × (judge_steps (Spec.steps steps.now) (channels list.now) ≡ 0) × (length picture.now ≡ total (channels list.now)) × Alike picture.now pyramid.old work.old }
+    requires { (judge_list list.now ≡ 0) × (judge_steps (Spec.steps steps.now) (channels list.now) ≡ 0) × (length picture.now ≡ total (channels list.now)) × Alike picture.now pyramid.old work.old }
     ensures { pyramid.new ≡ squeezed (Spec.steps steps.now) (channels list.now) picture.now }
 {
     let places = squeeze_steps(list, steps, picture, pyramid, work);
@@ -183,13 +183,12 @@ pub fn write(
 ) -> Result<(), Refusal>
     ensures { (Numbers.answer_of result ≡ Write.answer form.now.version form.now.list form.now.steps picture.now pyramid.old work.old) × (pyramid.new ≡ Write.written form.now.version form.now.list form.now.steps picture.now pyramid.old work.old) × (work.new ≡ Write.cleared form.now.version form.now.list form.now.steps picture.now pyramid.old work.old) }
 {
-    form.rewrite()?;
+    let plan = form.plan()?;
     let total = form.list.total() as usize;
     if !((picture.len() == total) & ((pyramid.len() == total) & (work.len() == total))) {
         return Err(Refusal::Length);
     }
-    let steps = form.meant_steps()?;
-    run(&form.list, &steps, picture, pyramid, work);
+    run(&form.list, &plan.steps, picture, pyramid, work);
     buffer::clear(work);
     Ok(())
 }

@@ -4,7 +4,7 @@ use Rattle.write.proofs.run.Goals as goal
 
 pub finish-requires : goal.finish-requires
 finish-requires c =
-    let alike = c.requires.4 in
+    let alike = c.requires.3 in
     let put = c.squeeze_steps-places in
     (record { odds_length = put.auto.odd ∙ alike.odds_length; evens_length = put.auto.even ∙ alike.evens_length }, put.ensures.full)
 

@@ -10,15 +10,10 @@ pub loop-k-preserved : goal.loop-k-preserved
 loop-k-preserved c =
     let a = c.args in
     let l = c.loop-k in
-    let i = l.invariant in (
-      omega arith,
-      omega arith,
-      squeezed_more a.step.horizontal (place_at a.places.now) a.step.begin (a.step.begin + a.step.number) a.picture.now a.odd.now a.even.now c.requires.2
-          l.k i.0 c.loop-k-test.true l.odd l.even _ _ i.2 (rw c.at.ensures at c.squeeze_place.ensures),
-    )
+    squeezed_more a.step.horizontal (place_at a.places.now) a.step.begin (a.step.begin + a.step.number) a.picture.now a.odd.now a.even.now c.requires.1
+    l.k (omega arith) (omega arith) l.odd l.even _ _ l.invariant (rw c.at.ensures at c.squeeze_place.ensures)
 
 pub returns : goal.returns
 returns c =
-    let i = c.loop-k.invariant in
-    let e : c.loop-k.k ≡ c.args.step.begin + c.args.step.number = omega (arith, i.1, c.loop-k-test.false) in
-    rw e at i.2
+    let e : c.loop-k.k ≡ c.args.step.begin + c.args.step.number = omega arith in
+    rw e at c.loop-k.invariant

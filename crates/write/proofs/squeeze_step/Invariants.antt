@@ -1,14 +1,9 @@
 -- `squeeze_step` meets its contract. The loop's invariant: the channels of the range before k are squeezed (`Squeezed` of specs/Standing.antt).
 -- Assumes nothing.
-use Prim.Native.Nat.{◌-◌, ◌≤◌}
 use Rattle.places.specs.Places.{place_at}
 use Rattle.write.specs.Standing.{Squeezed}
 use Rattle.write.proofs.squeeze_step.Given as goal
 
 abbrev pub invariant-loop-k : goal.invariant-loop-k
 invariant-loop-k l =
-    (l.begin ≤ l.k) × (l.k ≤ l.end)
-    × Squeezed l.horizontal (place_at l.places) l.begin l.k l.picture l.initial.odd l.initial.even l.odd l.even
-
-abbrev pub decreases-loop-k : goal.decreases-loop-k
-decreases-loop-k l = l.end - l.k
+    Squeezed l.horizontal (place_at l.places) l.fn.step.begin l.k l.picture l.initial.odd l.initial.even l.odd l.even

@@ -15,7 +15,7 @@ pub loop-k-init : goal.loop-k-init
 loop-k-init c =
     let a = c.args in
     let p = c.requires in
-    first_running a.list.now a.steps.now a.picture.now _ _ p.0 p.1 p.2 p.3 p.4 _ c.lay-places.ensures
+    first_running a.list.now a.steps.now a.picture.now _ _ p.0 p.1 p.2 p.3 _ c.lay-places.ensures
 
 pub squeeze_step-requires : goal.squeeze_step-requires
 squeeze_step-requires c =
@@ -23,9 +23,8 @@ squeeze_step-requires c =
     let l = c.loop-k in
     let w = l.invariant in
     let n = places_length l.places in
-    let r = reach (channels a.list.now) a.steps.now a.picture.now _ _ _ l.k w c.loop-k-test.true c.step-step.result c.step-step.ensures in (
+    let r = reach (channels a.list.now) a.steps.now a.picture.now _ _ _ l.k w (omega arith) c.step-step.result c.step-step.ensures in (
       w.alike,
-      omega arith,
       laid_ranged l.places _ _ _ (omega arith) w.laid,
       fit_ranged l.places _ _ (omega arith) (sided_fit w.cs _ w.sided w.fine),
     )
@@ -37,8 +36,8 @@ loop-k-preserved c =
     let s = c.step-step.result in
     let put = c.squeeze_step in
     let n = places_length l.places in
-    let r = reach (channels a.list.now) a.steps.now a.picture.now _ _ _ l.k l.invariant c.loop-k-test.true s c.step-step.ensures in
-    running_more (channels a.list.now) a.steps.now a.picture.now _ l.odd l.even l.k l.invariant c.loop-k-test.true s c.step-step.ensures _ _
+    let r = reach (channels a.list.now) a.steps.now a.picture.now _ _ _ l.k l.invariant (omega arith) s c.step-step.ensures in
+    running_more (channels a.list.now) a.steps.now a.picture.now _ l.odd l.even l.k l.invariant (omega arith) s c.step-step.ensures _ _
     put.auto.odd put.auto.even (squeezed_places l.places _ _ _ _ _ _ _ _ (omega arith) put.ensures) _
     (c.step.ensures.placed ∙ places_stepped l.places s r.0 r.1)
 
@@ -56,5 +55,5 @@ returns c =
             laid = w.laid;
             filled = sum_total w.cs _ w.sided ∙ w.same;
           };
-      so = running_all (channels a.list.now) a.steps.now a.picture.now _ _ _ l.k c.loop-k-test.false w;
+      so = running_all (channels a.list.now) a.steps.now a.picture.now _ _ _ l.k (omega arith) w;
     }

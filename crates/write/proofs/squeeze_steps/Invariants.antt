@@ -1,6 +1,5 @@
 -- `squeeze_steps` meets its contract. The loop's invariant: the list reached, what its places hold and the steps left give the whole run (`Running` of
 -- proofs/Running.antt). Assumes nothing.
-use Prim.Native.Nat.{◌-◌}
 use Rattle.list.specs.Lists.{channels}
 use Rattle.places.specs.Places.{places_in}
 use Rattle.write.proofs.Running.{Running}
@@ -9,6 +8,3 @@ use Rattle.write.proofs.squeeze_steps.Given as goal
 abbrev pub invariant-loop-k : goal.invariant-loop-k
 invariant-loop-k l =
     Running (channels l.fn.list) l.steps l.picture (places_in l.places) l.odd l.even l.k
-
-abbrev pub decreases-loop-k : goal.decreases-loop-k
-decreases-loop-k l = l.steps.count - l.k
