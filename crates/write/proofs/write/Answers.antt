@@ -1,5 +1,5 @@
 -- `write` meets its contract: each return has the answers to the questions before it (proofs/Answered.antt). Assumes nothing.
-use Rattle.std.proofs.Common.{rules, Err}
+use Rattle.std.proofs.Common.{rules}
 use mathlib.Core.Path.{◌≡◌, refl}
 use Rattle.numbers.specs.Numbers.{answer_of, number_of}
 use Rattle.numbers.proofs.Refusals.{number_some}
