@@ -12,11 +12,10 @@ use Rattle.channel.specs.declared.Channel.{Channel}
 use Rattle.channel.specs.Channel.{samples}
 use Rattle.list.specs.declared.ChannelList.{ChannelList}
 use Rattle.list.specs.Tables.{table, map}
-use Rattle.list.specs.Lists.{max_channels, max_steps, channel_at, channels}
+use Rattle.list.specs.Lists.{max_channels, channels}
 use Rattle.list.specs.Questions.{channel_of}
 use Rattle.list.proofs.Tables.{table_none}
 use Rattle.list.proofs.Maps.{map_length, map_at}
-use Rattle.list.proofs.Channels.{channels_length, channels_at}
 use Rattle.places.specs.declared.Place.{Place}
 use Rattle.places.specs.declared.Places.{Places}
 use Rattle.places.specs.Places.{area, sum, starts_from, none, places_in, areas_in, places_from, place_of}
@@ -32,11 +31,11 @@ use Rattle.runs.specs.Runs.{rebuilt}
 use Rattle.runs.proofs.Shapes.{joined_parts}
 use Rattle.rebuild.specs.declared.Source.TheVariants.{Pyramid}
 use Rattle.rebuild.specs.declared.Sources.{Sources}
-use Rattle.rebuild.specs.Run.{made_of, source_at, Lying, list_at, places_at, samples_at, RunFits, Back, place_in, given_at, SettleFits, Settled}
+use Rattle.rebuild.specs.Run.{made_of, source_at, Lying, step_count, list_at, places_at, samples_at, RunFits, Back, place_in, given_at, SettleFits, Settled}
 use Rattle.places.proofs.Arrays.{places_length}
 use Rattle.places.proofs.First.{from_areas, from_homes, from_sided, sum_samples}
 use Rattle.rebuild.proofs.Arrays.{areas_are, from_slots}
-use Rattle.rebuild.proofs.Firsts.{all_steps_lem, list_total, total_few, accepted_few, places_sided}
+use Rattle.rebuild.proofs.Firsts.{all_steps_lem, list_total, total_few, accepted_few, places_sided, places_laid}
 use Rattle.rebuild.proofs.StepsBack.{parts_count}
 
 -- ---- the parts of a slice, by index
@@ -59,27 +58,27 @@ areas_same cs ps w =
 
 module _ (l : ChannelList) (s : Steps) (pyramid : List ℤ) (f : RunFits l s pyramid) where
   -- ---- before the first step back
-  module _ (p : Places) (sources : Sources) (ep : places_in p ≡ places_at l s s.count) (ly : Lying p sources)
+  module _ (p : Places) (sources : Sources) (ep : places_in p ≡ places_at l s (step_count s)) (ly : Lying p sources)
       (picture work : List ℤ) (lp : length picture ≡ length pyramid) (lw : length work ≡ length pyramid) where
     abbrev cs : List Channel
-    cs = list_at l s s.count
+    cs = list_at l s (step_count s)
 
     abbrev ps : List Place
-    ps = places_at l s s.count
+    ps = places_at l s (step_count s)
 
     sided : Sided cs ps
-    sided = places_sided l s pyramid f s.count (omega arith)
+    sided = places_sided l s pyramid f (step_count s) (omega arith)
 
     count_is : p.count ≡ length ps
     count_is = sym (places_length p) ∙ ap length ep
 
-    whole : steps s ≡ table (step_at s) 0 s.count
+    whole : steps s ≡ table (step_at s) 0 (step_count s)
     unfolding S.steps
-    whole = let few = f.few in let e : min s.count max_steps ≡ s.count = omega arith in rw e
+    whole = refl
 
     count_few : p.count ≤ max_channels
     count_few =
-        let a = (plan_accepted (table (step_at s) 0 s.count) (channels l) f.accepted (rw whole at f.taken)).few in
+        let a = (plan_accepted (table (step_at s) 0 (step_count s)) (channels l) f.accepted (rw whole at f.taken)).few in
         let n = sided.long in
         let e = count_is in
         omega arith
@@ -88,7 +87,7 @@ module _ (l : ChannelList) (s : Steps) (pyramid : List ℤ) (f : RunFits l s pyr
     areas = areas_are p count_few ∙ ap (map area) ep ∙ areas_same cs ps sided
 
     sum_is : sum (map samples cs) ≡ length pyramid
-    sum_is = sum_samples cs ∙ list_total l s pyramid f s.count
+    sum_is = sum_samples cs ∙ list_total l s pyramid f (step_count s)
 
     lies_at : (k : ℕ) → k < length ps → source_at sources k ≡ Pyramid (place_in cs k)
     lies_at k h =
@@ -104,10 +103,10 @@ module _ (l : ChannelList) (s : Steps) (pyramid : List ℤ) (f : RunFits l s pyr
     size_is : (k : ℕ) → k < length ps → area (place_of ps k) ≡ samples (channel_of cs k)
     size_is k h = sided_area cs ps sided k h
 
-    pyramid_is : samples_at l s s.count pyramid ≡ pyramid
-    pyramid_is = rw (table_none (step_at s) s.count s.count (omega arith))
+    pyramid_is : samples_at l s (step_count s) pyramid ≡ pyramid
+    pyramid_is = rw (table_none (step_at s) (step_count s) (step_count s) (omega arith))
 
-    pub back_none : Back l s s.count sources pyramid picture work
+    pub back_none : Back l s (step_count s) sources pyramid picture work
     back_none =
         record {
           inside = omega arith;
@@ -126,51 +125,47 @@ module _ (l : ChannelList) (s : Steps) (pyramid : List ℤ) (f : RunFits l s pyr
         }
 
   -- ---- after the last
-  module _ (sources : Sources) (picture work : List ℤ) (w : Back l s 0 sources pyramid picture work) where
+  module _ (p : Places) (ep : places_in p ≡ places_at l s 0) (sources : Sources) (picture work : List ℤ) (w : Back l s 0 sources pyramid picture work) where
     abbrev ds : List Channel
     ds = channels l
 
-    ds_long : length ds ≡ l.count
-    ds_long = let n = f.counted in channels_length l ∙ omega arith
+    first_long : length (places_from 0 ds) ≡ length ds
+    first_long = (from_sided 0 ds).long
 
-    first_long : length (places_from 0 ds) ≡ l.count
-    first_long = (from_sided 0 ds).long ∙ ds_long
+    first_area : (k : ℕ) → k < length ds → area (place_of (places_from 0 ds) k) ≡ samples (channel_of ds k)
+    first_area k h = let n = first_long in sided_area ds (places_from 0 ds) (from_sided 0 ds) k (omega arith)
 
-    first_area : (k : ℕ) → k < l.count → area (place_of (places_from 0 ds) k) ≡ samples (channel_at l k)
-    first_area k h =
-        let n = first_long in
-        let m = ds_long in
-        sided_area ds (places_from 0 ds) (from_sided 0 ds) k (omega arith) ∙ ap samples (sym (channels_at l k (omega arith)))
-
-    first_place : (k : ℕ) → k < l.count → (place_of (places_from 0 ds) k).home ≡ place_in ds k
+    first_place : (k : ℕ) → k < length ds → (place_of (places_from 0 ds) k).home ≡ place_in ds k
     first_place k h =
         let n = first_long in
         let q = sum_samples ds in
         let t = accepted_few ds f.accepted in
         first_home (places_from 0 ds) (map samples ds) (sym (from_areas 0 ds)) (from_homes 0 ds) (omega arith) k (omega arith)
 
-    pub settle_fits : SettleFits l sources pyramid picture
+    pub settle_fits : SettleFits (places_in p) sources pyramid picture
     settle_fits =
-        let n = first_long in
-        record {
-          counted = f.counted;
-          starts_in = λ k h. rw (first_area k h) at (w.starts_in k (omega arith));
-          at_home_lem = λ k h e. w.at_home_lem k (omega arith) e ∙ first_place k h;
-          few = accepted_few ds f.accepted;
-          pyramid_long = f.pyramid_long;
-          picture_long = w.picture_long ∙ f.pyramid_long;
-        }
+        rw ep
+        (record {
+          laid = places_laid l s pyramid f 0 (omega arith);
+          starts_in = w.starts_in;
+          at_home_lem = w.at_home_lem;
+          picture_long = w.picture_long;
+        })
 
-    given : (k : ℕ) → k < l.count → given_at l sources pyramid picture k ≡ get_or (parts ds (samples_at l s 0 pyramid)) k []
-    given k h = let n = first_long in rw (first_area k h, from_slots 0 ds k) at (w.here k (omega arith))
+    given : (k : ℕ) → k < length ds → given_at (places_from 0 ds) sources pyramid picture k ≡ get_or (parts ds (samples_at l s 0 pyramid)) k []
+    given k h = let n = first_long in rw (from_slots 0 ds k) at (w.here k (omega arith))
 
-    pub settled_is : (picture2 : List ℤ) → length picture2 ≡ length picture → Settled l sources pyramid picture picture2 → picture2 ≡ rebuilt (steps s) ds pyramid
+    pub settled_is : (picture2 : List ℤ) → length picture2 ≡ length picture → Settled (min p.count max_channels) (places_in p) sources pyramid picture picture2
+        → picture2 ≡ rebuilt (steps s) ds pyramid
     settled_is picture2 e t =
-        let n = ds_long in
+        let few = f.accepted.few in
+        let n : p.count ≡ length ds = sym (places_length p) ∙ ap length ep ∙ first_long in
         let a = parts_count ds picture2 in
         let b = parts_count ds (samples_at l s 0 pyramid) in
+        let there : (k : ℕ) → k < length ds → part (place_in ds k) (samples (channel_of ds k)) picture2 ≡ get_or (parts ds (samples_at l s 0 pyramid)) k [] =
+        λ k h. rw (← first_place k h, ← first_area k h) (rw ep at (t k (omega arith)) ∙ given k h) in
         let same : parts ds picture2 ≡ parts ds (samples_at l s 0 pyramid) =
         ext_get_or [] (parts ds picture2) (parts ds (samples_at l s 0 pyramid)) (omega arith)
-        (λ k h. parts_at ds picture2 k (omega arith) ∙ ap (λ (m : ℕ). part (place_in ds k) m picture2) (ap samples (sym (channels_at l k (omega arith)))) ∙ t k (omega arith) ∙ given k (omega arith)) in
+        (λ k h. parts_at ds picture2 k (omega arith) ∙ there k (omega arith)) in
         sym (joined_parts ds picture2 (e ∙ w.picture_long ∙ f.pyramid_long)) ∙ ap joined same ∙ joined_parts ds (samples_at l s 0 pyramid) (w.samples_long ∙ f.pyramid_long)
-        ∙ rw (all_steps_lem s 0 (omega arith) f.few)
+        ∙ rw (all_steps_lem s 0 (omega arith))

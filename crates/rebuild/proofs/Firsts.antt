@@ -2,7 +2,7 @@
 -- homes lie apart inside the slices. Assumes nothing.
 use mathlib.Core.Path.{◌≡◌, refl, sym, ap, subst, ◌∙◌}
 use mathlib.Core.List.{List, [], ◌∷◌, ◌++◌}
-use Prim.Native.Nat.{ℕ, zero, suc, ◌+◌, ◌-◌, ◌<◌, ◌≤◌, min}
+use Prim.Native.Nat.{ℕ, zero, suc, ◌+◌, ◌-◌, ◌<◌, ◌≤◌}
 use native.Mathlib.Omega.{arith}
 use borrow.Author.Tests.{leb-true, le-leb}
 use lib.ListN.{length}
@@ -12,7 +12,7 @@ use Rattle.channel.specs.declared.Channel.{Channel}
 use Rattle.list.specs.declared.ChannelList.{ChannelList}
 use Rattle.list.specs.declared.Step.{Step}
 use Rattle.list.specs.Tables.{table}
-use Rattle.list.specs.Lists.{max_channels, max_steps, channels, stepped, total}
+use Rattle.list.specs.Lists.{max_channels, channels, stepped, total}
 use Rattle.list.specs.Questions as Questions
 use Rattle.list.specs.Questions.{channel_of, judge_step}
 use Rattle.list.specs.Accepted.{Accepted, StepAccepted}
@@ -30,7 +30,7 @@ use Rattle.places.proofs.Arrays.{table_join}
 use Rattle.places.proofs.Laid.{laid_step}
 use Rattle.places.proofs.First.{from_sided, from_laid}
 use Rattle.places.proofs.Sided.{sided_step}
-use Rattle.rebuild.specs.Run.{places_all, first_steps, list_at, places_at, StepsFit, RunFits}
+use Rattle.rebuild.specs.Run.{places_all, step_count, first_steps, list_at, places_at, StepsFit, RunFits}
 
 pub accepted_few : (cs : List Channel) → Accepted cs → total cs ≤ max_samples
 unfolding Questions.total_allowed
@@ -40,12 +40,12 @@ accepted_few cs ok = leb-true (total cs) max_samples ok.samples
 to_more : (s : Steps) (m : ℕ) → first_steps s (m + 1) ≡ first_steps s m ++ (step_at s m ∷ [])
 to_more s m = let z : 0 + m ≡ m = omega arith in table_join (step_at s) 0 m 1 ∙ rw z
 
-pub all_steps_lem : (s : Steps) (m : ℕ) → m ≤ s.count → s.count ≤ max_steps → steps s ≡ first_steps s m ++ table (step_at s) m (s.count - m)
+pub all_steps_lem : (s : Steps) (m : ℕ) → m ≤ step_count s → steps s ≡ first_steps s m ++ table (step_at s) m (step_count s - m)
 unfolding S.steps
-all_steps_lem s m h few =
-    let e : min s.count max_steps ≡ m + (s.count - m) = omega arith in
+all_steps_lem s m h =
+    let e : step_count s ≡ m + (step_count s - m) = omega arith in
     let z : 0 + m ≡ m = omega arith in
-    rw e (table_join (step_at s) 0 m (s.count - m) ∙ rw z)
+    ap (table (step_at s) 0) e ∙ table_join (step_at s) 0 m (step_count s - m) ∙ rw z
 
 places_append : (ss ts : List Step) (ps : List Place) → places_all (ss ++ ts) ps ≡ places_all ts (places_all ss ps)
 places_append [] ts ps = refl
@@ -63,14 +63,14 @@ module _ (l : ChannelList) (s : Steps) (m : ℕ) where
 
 -- ---- the first m steps of an accepted plan
 module _ (l : ChannelList) (s : Steps) (pyramid : List ℤ) (f : RunFits l s pyramid) where
-  module _ (m : ℕ) (h : m < s.count) where
-    split : steps s ≡ first_steps s m ++ (step_at s m ∷ table (step_at s) (m + 1) (s.count - (m + 1)))
-    split = all_steps_lem s m (omega arith) f.few ∙ rw (table_rest (step_at s) m s.count h)
+  module _ (m : ℕ) (h : m < step_count s) where
+    split : steps s ≡ first_steps s m ++ (step_at s m ∷ table (step_at s) (m + 1) (step_count s - (m + 1)))
+    split = all_steps_lem s m (omega arith) ∙ rw (table_rest (step_at s) m (step_count s) h)
 
-    answers : (judge_steps (first_steps s m) (channels l) ≡ 0) × (judge_steps (step_at s m ∷ table (step_at s) (m + 1) (s.count - (m + 1))) (list_at l s m) ≡ 0)
+    answers : (judge_steps (first_steps s m) (channels l) ≡ 0) × (judge_steps (step_at s m ∷ table (step_at s) (m + 1) (step_count s - (m + 1))) (list_at l s m) ≡ 0)
     answers =
         none_refused (judge_steps (first_steps s m) (channels l)) _
-        (sym (judge_append (first_steps s m) (step_at s m ∷ table (step_at s) (m + 1) (s.count - (m + 1))) (channels l)) ∙ ap (λ (ss : List Step). judge_steps ss (channels l)) (sym split) ∙ f.taken)
+        (sym (judge_append (first_steps s m) (step_at s m ∷ table (step_at s) (m + 1) (step_count s - (m + 1))) (channels l)) ∙ ap (λ (ss : List Step). judge_steps ss (channels l)) (sym split) ∙ f.taken)
 
     pub step_judged : judge_step (step_at s m) (list_at l s m) ≡ 0
     step_judged = (none_refused (judge_step (step_at s m) (list_at l s m)) _ answers.1).0
@@ -87,7 +87,7 @@ module _ (l : ChannelList) (s : Steps) (pyramid : List ℤ) (f : RunFits l s pyr
   pub total_few : length pyramid ≤ max_samples
   total_few = let n = f.pyramid_long in let k = accepted_few (channels l) f.accepted in omega arith
 
-  pub places_sided : (m : ℕ) → m ≤ s.count → Sided (list_at l s m) (places_at l s m)
+  pub places_sided : (m : ℕ) → m ≤ step_count s → Sided (list_at l s m) (places_at l s m)
   places_sided zero h = from_sided 0 (channels l)
   places_sided (suc m) h =
       let z : suc m ≡ m + 1 = omega arith in
@@ -95,17 +95,17 @@ module _ (l : ChannelList) (s : Steps) (pyramid : List ℤ) (f : RunFits l s pyr
       (subst (Sided (stepped (step_at s m) (list_at l s m))) (sym (ap (places_at l s) z ∙ places_more l s m))
       (sided_step (step_at s m) (list_at l s m) (places_at l s m) (step_ok m (omega arith)).inside (places_sided m (omega arith))))
 
-  pub step_inside : (m : ℕ) → m < s.count → (step_at s m).begin + (step_at s m).number ≤ length (places_at l s m)
+  pub step_inside : (m : ℕ) → m < step_count s → (step_at s m).begin + (step_at s m).number ≤ length (places_at l s m)
   step_inside m h = let w = (places_sided m (omega arith)).long in let n = (step_ok m h).inside in omega arith
 
-  pub places_laid : (m : ℕ) → m ≤ s.count → Laid (length pyramid) (places_at l s m)
+  pub places_laid : (m : ℕ) → m ≤ step_count s → Laid (length pyramid) (places_at l s m)
   places_laid zero h = rw f.pyramid_long (from_laid (channels l) (accepted_few (channels l) f.accepted))
   places_laid (suc m) h =
       let z : suc m ≡ m + 1 = omega arith in
       subst (Laid (length pyramid)) (sym (ap (places_at l s) z ∙ places_more l s m)) (laid_step (length pyramid) (step_at s m) (places_at l s m) (step_inside m (omega arith)) total_few (places_laid m (omega arith)))
 
   -- each step fits its places
-  pub steps_fit : (n : ℕ) → n ≤ s.count → StepsFit n s (places_from 0 (channels l))
+  pub steps_fit : (n : ℕ) → n ≤ step_count s → StepsFit n s (places_from 0 (channels l))
   unfolding step_fits
   steps_fit n h m b =
       let o = step_ok m (omega arith) in

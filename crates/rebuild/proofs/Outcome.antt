@@ -16,7 +16,7 @@ use Rattle.plan.specs.Plans.{Planned}
 use Rattle.plan.specs.declared.Steps.{Steps}
 use Rattle.plan.specs.Steps as S
 use Rattle.plan.specs.Plans.{meant, meant_steps, judge_plan}
-use Rattle.plan.proofs.Judged.{judged_list, judged_total, judged_counts, meant_judged, meant_is}
+use Rattle.plan.proofs.Judged.{judged_list, judged_total, meant_judged, meant_is}
 use Rattle.buffer.specs.Buffer.{zeros}
 use Rattle.buffer.proofs.Overwritten.{zeros_same}
 use Rattle.runs.specs.Runs.{rebuilt}
@@ -31,8 +31,6 @@ module _ (version : ℕ) (l : ChannelList) (s : Steps) (ok : judge_plan version 
   pub run_fits : (pyramid : List ℤ) → length pyramid ≡ total (channels l) → RunFits l r.steps pyramid
   run_fits pyramid n =
       record {
-        few = room;
-        counted = (judged_counts version l s ok).0;
         accepted = list_accepted l (judged_list version l s ok);
         taken = rw steps_are (meant_judged version l s ok);
         pyramid_long = n;

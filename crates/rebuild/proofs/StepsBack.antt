@@ -31,7 +31,7 @@ use Rattle.runs.specs.Runs.{channel_back, back_parts, step_back, rebuilt}
 use Rattle.runs.proofs.Shapes.{Shaped, parts_joined, joined_length}
 use Rattle.rebuild.specs.declared.Source.TheVariants.{Home}
 use Rattle.rebuild.specs.declared.Sources.{Sources}
-use Rattle.rebuild.specs.Run.{slice_of, start_of, made_of, lying_in, source_at, start_at, made_at, held, RangeFits, TakenBack, list_at, places_at, samples_at, RunFits, Back}
+use Rattle.rebuild.specs.Run.{slice_of, start_of, made_of, lying_in, source_at, start_at, made_at, held, step_count, RangeFits, TakenBack, list_at, places_at, samples_at, RunFits, Back}
 use Rattle.rebuild.proofs.Lent.{source_length, slice_length}
 use Rattle.rebuild.proofs.Backs.{shaped_by, back_count, back_before, back_range, back_behind}
 use Rattle.rebuild.proofs.Firsts.{list_more, places_more, step_judged, step_ok, list_ok, list_total, total_few, places_sided, places_laid, step_inside}
@@ -58,7 +58,7 @@ root_behind n s k g b = by s.inplace
     by true = rw (le-ltb (k + s.number) (s.begin + s.number) (omega arith), le-ltb (k + s.number) (s.begin + s.number + s.number) (omega arith)) (omega arith)
     by false = rw (lt-ltb (k + 0) n (omega arith)) (omega arith)
 
-module _ (l : ChannelList) (s : Steps) (pyramid : List ℤ) (f : RunFits l s pyramid) (m : ℕ) (h : m < s.count)
+module _ (l : ChannelList) (s : Steps) (pyramid : List ℤ) (f : RunFits l s pyramid) (m : ℕ) (h : m < step_count s)
     (sources : Sources) (picture work : List ℤ) (w : Back l s (m + 1) sources pyramid picture work) where
   abbrev st : Step
   st = step_at s m
@@ -74,7 +74,7 @@ module _ (l : ChannelList) (s : Steps) (pyramid : List ℤ) (f : RunFits l s pyr
 
   -- the samples of the list after the step
   abbrev xs : List ℤ
-  xs = rebuilt (table (step_at s) (m + 1) (s.count - (m + 1))) (stepped st cs) pyramid
+  xs = rebuilt (table (step_at s) (m + 1) (step_count s - (m + 1))) (stepped st cs) pyramid
 
   abbrev old : List (List ℤ)
   old = parts (stepped st cs) xs
@@ -117,7 +117,7 @@ module _ (l : ChannelList) (s : Steps) (pyramid : List ℤ) (f : RunFits l s pyr
 
   -- ---- the samples before the step
   samples_are : samples_at l s m pyramid ≡ step_back st cs xs
-  samples_are = rw (table_rest (step_at s) m s.count h, eq-eqb (judge_step st cs) 0 (step_judged l s pyramid f m h))
+  samples_are = rw (table_rest (step_at s) m (step_count s) h, eq-eqb (judge_step st cs) 0 (step_judged l s pyramid f m h))
 
   cs_long : length qs ≡ length cs
   cs_long = (places_sided l s pyramid f m (omega arith)).long

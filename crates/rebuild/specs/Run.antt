@@ -6,7 +6,7 @@ use Rattle.channel.specs.Channel.{sides_fit, samples}
 use Rattle.list.specs.declared.Step.{Step}
 use Rattle.list.specs.declared.ChannelList.{ChannelList}
 use Rattle.list.specs.Tables.{table, map}
-use Rattle.list.specs.Lists.{max_channels, max_steps, channel_at, channels, total}
+use Rattle.list.specs.Lists.{max_channels, max_steps, channels, total}
 use Rattle.list.specs.Accepted.{Accepted}
 use Rattle.plan.specs.declared.Steps.{Steps}
 use Rattle.plan.specs.Steps.{step_at, steps}
@@ -137,7 +137,10 @@ abbrev pub places_all : List Step → List Place → List Place
 places_all [] ps = ps
 places_all (s ∷ ss) ps = places_all ss (step_places s ps)
 
--- the first m steps of a plan, the list and the places that they leave, and the samples of that list
+-- how many steps a plan means, the first m of them, the list and the places that they leave, and the samples of that list
+abbrev pub step_count : Steps → ℕ
+step_count s = min s.count max_steps
+
 abbrev pub first_steps : Steps → ℕ → List Step
 first_steps s m = table (step_at s) 0 m
 
@@ -148,7 +151,7 @@ abbrev pub places_at : ChannelList → Steps → ℕ → List Place
 places_at l s m = places_all (first_steps s m) (places_from 0 (channels l))
 
 abbrev pub samples_at : ChannelList → Steps → ℕ → List ℤ → List ℤ
-samples_at l s m pyramid = rebuilt (table (step_at s) m (s.count - m)) (list_at l s m) pyramid
+samples_at l s m pyramid = rebuilt (table (step_at s) m (step_count s - m)) (list_at l s m) pyramid
 
 -- each of the first n steps fits the places that those before it leave
 abbrev pub StepsFit : ℕ → Steps → List Place → Type 0
@@ -156,15 +159,13 @@ StepsFit n s ps = (m : ℕ) → m < n → step_fits (length (places_all (first_s
 
 -- accepted steps on an accepted list, and a pyramid with its samples
 pub record RunFits (l : ChannelList) (s : Steps) (pyramid : List ℤ) : Type 0 where
-  pub few : s.count ≤ max_steps
-  pub counted : l.count ≤ max_channels
   pub accepted : Accepted (channels l)
   pub taken : judge_steps (steps s) (channels l) ≡ 0
   pub pyramid_long : length pyramid ≡ total (channels l)
 
 -- with m steps left to take back, each channel of the list that they leave has its samples where it lies
 pub record Back (l : ChannelList) (s : Steps) (m : ℕ) (sources : Sources) (pyramid picture work : List ℤ) : Type 0 where
-  pub inside : m ≤ s.count
+  pub inside : m ≤ step_count s
   pub starts_in : (j : ℕ) → j < length (places_at l s m) → start_at sources j + area (place_of (places_at l s m) j) ≤ length pyramid
   pub at_home_lem : (j : ℕ) → j < length (places_at l s m) → made_at sources j ≡ true → start_at sources j ≡ (place_of (places_at l s m) j).home
   pub here : (j : ℕ) → j < length (places_at l s m)
@@ -174,21 +175,21 @@ pub record Back (l : ChannelList) (s : Steps) (m : ℕ) (sources : Sources) (pyr
   pub picture_long : length picture ≡ length pyramid
   pub work_long : length work ≡ length pyramid
 
--- ---- the end: what no step has made goes to its place in the picture
+-- ---- the end: what no step has made goes to its home in the picture
+-- where channel k of a list starts in its pyramid, and in the picture
 abbrev pub place_in : List Channel → ℕ → ℕ
 place_in cs k = sum (take k (map samples cs))
 
-abbrev pub given_at : ChannelList → Sources → List ℤ → List ℤ → ℕ → List ℤ
-given_at l sources pyramid picture k = part (start_at sources k) (samples (channel_at l k)) (cond (made_at sources k) picture pyramid)
+abbrev pub given_at : List Place → Sources → List ℤ → List ℤ → ℕ → List ℤ
+given_at ps sources pyramid picture k = part (start_at sources k) (area (place_of ps k)) (cond (made_at sources k) picture pyramid)
 
-pub record SettleFits (l : ChannelList) (sources : Sources) (pyramid picture : List ℤ) : Type 0 where
-  pub counted : l.count ≤ max_channels
-  pub starts_in : (k : ℕ) → k < l.count → start_at sources k + samples (channel_at l k) ≤ length pyramid
-  pub at_home_lem : (k : ℕ) → k < l.count → made_at sources k ≡ true → start_at sources k ≡ place_in (channels l) k
-  pub few : total (channels l) ≤ max_samples
-  pub pyramid_long : length pyramid ≡ total (channels l)
-  pub picture_long : length picture ≡ total (channels l)
+pub record SettleFits (ps : List Place) (sources : Sources) (pyramid picture : List ℤ) : Type 0 where
+  pub laid : Laid (length pyramid) ps
+  pub starts_in : (k : ℕ) → k < length ps → start_at sources k + area (place_of ps k) ≤ length pyramid
+  pub at_home_lem : (k : ℕ) → k < length ps → made_at sources k ≡ true → start_at sources k ≡ (place_of ps k).home
+  pub picture_long : length picture ≡ length pyramid
 
-abbrev pub Settled : ChannelList → Sources → List ℤ → List ℤ → List ℤ → Type 0
-Settled l sources pyramid picture picture' =
-    (k : ℕ) → k < l.count → part (place_in (channels l) k) (samples (channel_at l k)) picture' ≡ given_at l sources pyramid picture k
+-- the first n of them
+abbrev pub Settled : ℕ → List Place → Sources → List ℤ → List ℤ → List ℤ → Type 0
+Settled n ps sources pyramid picture picture' =
+    (k : ℕ) → k < n → part (place_of ps k).home (area (place_of ps k)) picture' ≡ given_at ps sources pyramid picture k

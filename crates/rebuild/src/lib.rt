@@ -6,7 +6,7 @@
 // lengths, each refusal with its number and both lent slices untouched.
 #![tactic(auto)]
 
-ghost use Rattle.std.specs.Prelude.{◌≡◌, cond, ◌+◌, ◌<◌, ◌≤◌, length};
+ghost use Rattle.std.specs.Prelude.{◌≡◌, cond, ◌+◌, ◌<◌, ◌≤◌, length, min};
 ghost use Rattle.numbers.specs.Numbers.{answer_of};
 ghost use Rattle.list.specs.Lists.{max_channels, channels};
 ghost use Rattle.plan.specs.Steps as Spec;
@@ -150,9 +150,8 @@ impl Sources {
     fn lay(&mut self, places: &Places)
         ensures { Lying places.now self.new }
     {
-        let count = places.count.min(ChannelList::MAX_CHANNELS);
         let mut at = 0;
-        for k in 0..count {
+        for k in 0..places.len() {
             self.entries[k] = Source::Pyramid(at);
             at = behind(at, places.places[k].area());
         }
@@ -227,23 +226,23 @@ fn take_back(
     ensures { TakenBack step (places_in places.now) sources.old pyramid.now picture.old work.old sources.new picture.new work.new }
 {
     make_range(places, step, sources, pyramid, picture, work);
-    let begin = step.begin as usize;
-    let number = step.number as usize;
-    sources.mark(begin, begin + number, places);
-    sources.close(places.count, places.residuals_at(step), number);
+    sources.mark(step.begin as usize, step.end(), places);
+    sources.close(
+        places.count,
+        places.residuals_at(step),
+        step.number as usize,
+    );
 }
 
-// The channels that no step has made, to their places in the picture: the others
-// stand there already.
-fn settle(list: &ChannelList, sources: &Sources, pyramid: &[i32], picture: &mut [i32])
-    requires { SettleFits list.now sources.now pyramid.now picture.old }
-    ensures { Settled list.now sources.now pyramid.now picture.old picture.new }
+// The channels that no step has made, to their homes in the picture: the others stand
+// there already.
+fn settle(places: &Places, sources: &Sources, pyramid: &[i32], picture: &mut [i32])
+    requires { SettleFits (places_in places.now) sources.now pyramid.now picture.old }
+    ensures { Settled (min places.now.count max_channels) (places_in places.now) sources.now pyramid.now picture.old picture.new }
 {
-    let mut at = 0;
-    for k in 0..list.count {
-        let n = list.channel(k).samples() as usize;
-        sources.entries[k].settle(n, at, pyramid, picture);
-        at += n;
+    for k in 0..places.len() {
+        let place = places.places[k];
+        sources.entries[k].settle(place.area(), place.home, pyramid, picture);
     }
 }
 
@@ -254,15 +253,16 @@ fn run(list: &ChannelList, steps: &Steps, pyramid: &[i32], picture: &mut [i32], 
     requires { RunFits list.now steps.now pyramid.now × (length picture.old ≡ length pyramid.now) × (length work.old ≡ length pyramid.now) }
     ensures { picture.new ≡ rebuilt (Spec.steps steps.now) (channels list.now) pyramid.now }
 {
+    let count = steps.len();
     let mut places = Places::empty();
-    take_steps(&mut places, list, steps, steps.count);
+    take_steps(&mut places, list, steps, count);
     let mut sources = Sources::new();
     sources.lay(&places);
-    for m in (0..steps.count).rev() {
+    for m in (0..count).rev() {
         take_steps(&mut places, list, steps, m);
         take_back(&places, steps.step(m), &mut sources, pyramid, picture, work);
     }
-    settle(list, &sources, pyramid, picture);
+    settle(&places, &sources, pyramid, picture);
 }
 
 // The picture that a pyramid holds under a plan.
@@ -274,13 +274,12 @@ pub fn rebuild(
 ) -> Result<(), Refusal>
     ensures { (answer_of result ≡ Rebuild.answer_of form.now.version form.now.list form.now.steps pyramid.now picture.old work.old) × (picture.new ≡ Rebuild.picture_after form.now.version form.now.list form.now.steps pyramid.now picture.old work.old) × (work.new ≡ Rebuild.work_after form.now.version form.now.list form.now.steps pyramid.now picture.old work.old) }
 {
-    let steps = form.meant_steps()?;
-    let _ = form.rewrite()?;
+    let plan = form.plan()?;
     let total = form.list.total() as usize;
     if !((pyramid.len() == total) & ((picture.len() == total) & (work.len() == total))) {
         return Err(Refusal::Length);
     }
-    run(&form.list, &steps, pyramid, picture, work);
+    run(&form.list, &plan.steps, pyramid, picture, work);
     buffer::clear(work);
     Ok(())
 }

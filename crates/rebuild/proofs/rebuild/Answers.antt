@@ -1,30 +1,18 @@
 -- `rebuild` meets its contract: each return has the answers to the questions before it, and the last has the run (proofs/Outcome.antt). Assumes nothing.
-use Rattle.std.proofs.Common.{rules, Err, ◌≡◌, ◌∙◌, sym, refl}
+use Rattle.std.proofs.Common.{rules, ◌≡◌, ◌∙◌, sym, refl}
 use Rattle.numbers.specs.Numbers.{number_of, answer_of}
 use Rattle.numbers.proofs.Refusals.{number_some}
-use Rattle.plan.specs.Plans.{planned_of}
-use Rattle.plan.proofs.Answers.{rewritten_refused}
 use Rattle.plan.proofs.Judged.{plan_answer}
 use Rattle.rebuild.proofs.Outcome.{run_fits, run_is, ends_refused, ends_misfit, lengths, ends_done}
 use Rattle.rebuild.proofs.rebuild.Goals as goal
 
-pub returns-in_err-steps : goal.returns-in_err-steps
-returns-in_err-steps c =
+pub returns-in_err-plan : goal.returns-in_err-plan
+returns-in_err-plan c =
     let a = c.args in
     let f = a.form.now in
-    let r = c.in_err-steps.field-0.0 in
+    let r = c.in_err-plan.field-0.0 in
     let e : answer_of c.from_residual.result ≡ number_of r = search rules in
-    let ea = plan_answer f.version f.list f.steps _ (rewritten_refused f.version f.list f.steps (planned_of (Err r)) c.in_err-steps.ensures.value (number_some r)) in
-    let w = ends_refused f.version f.list f.steps a.pyramid.now a.picture.now a.work.now _ ea (number_some r) in
-    (e ∙ w.0, w.1, w.2)
-
-pub returns-in_err-rewrite : goal.returns-in_err-rewrite
-returns-in_err-rewrite c =
-    let a = c.args in
-    let f = a.form.now in
-    let r = c.in_err-rewrite.field-0.0 in
-    let e : answer_of c.from_residual-in_err-rewrite.result ≡ number_of r = search rules in
-    let ea = plan_answer f.version f.list f.steps _ c.in_err-rewrite.ensures in
+    let ea = plan_answer f.version f.list f.steps _ c.in_err-plan.ensures.reached in
     let w = ends_refused f.version f.list f.steps a.pyramid.now a.picture.now a.work.now _ ea (number_some r) in
     (e ∙ w.0, w.1, w.2)
 
@@ -32,25 +20,25 @@ pub returns-then-not-pyramid-total : goal.returns-then-not-pyramid-total
 returns-then-not-pyramid-total c =
     let a = c.args in
     let f = a.form.now in
-    ends_misfit f.version f.list f.steps a.pyramid.now a.picture.now a.work.now _ (plan_answer f.version f.list f.steps _ c.in_ok-rewrite.ensures) refl
+    ends_misfit f.version f.list f.steps a.pyramid.now a.picture.now a.work.now _ (plan_answer f.version f.list f.steps _ c.in_ok-plan.ensures.reached) refl
     c.total-total.result c.total-total.ensures c.if-not-pyramid-total.true
 
 pub run-requires : goal.run-requires
 run-requires c =
     let a = c.args in
     let f = a.form.now in
-    let ea = plan_answer f.version f.list f.steps _ c.in_ok-rewrite.ensures in
+    let p = c.in_ok-plan.ensures in
+    let ea = plan_answer f.version f.list f.steps _ p.reached in
     let t = c.total-total in
-    let m = c.in_ok-steps.ensures in
     let n = lengths f.version f.list f.steps a.pyramid.now a.picture.now a.work.now _ ea refl t.result t.ensures c.if-not-pyramid-total.false in
-    (run_fits f.version f.list f.steps (sym ea) _ m.value m.room a.pyramid.now n.0, n.1 ∙ sym n.0, n.2 ∙ sym n.0)
+    (run_fits f.version f.list f.steps (sym ea) _ p.meant p.room a.pyramid.now n.0, n.1 ∙ sym n.0, n.2 ∙ sym n.0)
 
 pub returns : goal.returns
 returns c =
     let a = c.args in
     let f = a.form.now in
-    let ea = plan_answer f.version f.list f.steps _ c.in_ok-rewrite.ensures in
+    let p = c.in_ok-plan.ensures in
+    let ea = plan_answer f.version f.list f.steps _ p.reached in
     let t = c.total-total in
-    let m = c.in_ok-steps.ensures in
     ends_done f.version f.list f.steps a.pyramid.now a.picture.now a.work.now _ ea refl t.result t.ensures c.if-not-pyramid-total.false _ _ _
-    (run_is f.version f.list f.steps (sym ea) _ m.value m.room a.pyramid.now _ c.run.ensures) c.run.auto.work c.clear.ensures
+    (run_is f.version f.list f.steps (sym ea) _ p.meant p.room a.pyramid.now _ c.run.ensures) c.run.auto.work c.clear.ensures

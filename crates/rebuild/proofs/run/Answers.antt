@@ -11,26 +11,29 @@ use Rattle.rebuild.proofs.run.Goals as goal
 pub take_steps-requires : goal.take_steps-requires
 take_steps-requires c =
     let a = c.args in
-    steps_fit a.list.now a.steps.now a.pyramid.now c.requires.0 a.steps.now.count (omega arith)
+    steps_fit a.list.now a.steps.now a.pyramid.now c.requires.0 _ (omega (arith, c.len-count.ensures))
 
 pub loop-m-init : goal.loop-m-init
 loop-m-init c =
     let a = c.args in
     let p = c.requires in
-    back_none a.list.now a.steps.now a.pyramid.now p.0 c.take_steps.new.places c.lay.new.self c.take_steps.ensures c.lay.ensures
-    a.picture.now a.work.now p.1 p.2
+    let n = c.len-count.ensures in (
+      rw n
+          (back_none a.list.now a.steps.now a.pyramid.now p.0 c.take_steps.new.places c.lay.new.self (rw n at c.take_steps.ensures) c.lay.ensures a.picture.now a.work.now p.1 p.2),
+      c.take_steps.ensures,
+    )
 
 pub take_steps-requires-in-loop-m : goal.take_steps-requires-in-loop-m
 take_steps-requires-in-loop-m c =
     let a = c.args in
-    steps_fit a.list.now a.steps.now a.pyramid.now c.requires.0 (c.loop-m.m - 1) (omega arith)
+    steps_fit a.list.now a.steps.now a.pyramid.now c.requires.0 (c.loop-m.m - 1) (omega (arith, c.len-count.ensures))
 
 pub take_back-requires : goal.take_back-requires
 take_back-requires c =
     let a = c.args in
     let w = c.loop-m in
     let z : w.m - 1 + 1 ≡ w.m = omega arith in
-    fits_here a.list.now a.steps.now a.pyramid.now c.requires.0 (w.m - 1) (omega arith) w.sources w.picture w.work (rw z w.invariant) _ c.step.ensures _
+    fits_here a.list.now a.steps.now a.pyramid.now c.requires.0 (w.m - 1) (omega (arith, c.len-count.ensures)) w.sources w.picture w.work (rw z w.invariant.0) _ c.step.ensures _
     c.take_steps-in-loop-m.ensures
 
 pub loop-m-preserved : goal.loop-m-preserved
@@ -38,18 +41,22 @@ loop-m-preserved c =
     let a = c.args in
     let w = c.loop-m in
     let z : w.m - 1 + 1 ≡ w.m = omega arith in
-    let k = c.take_back.auto in
-    back_here a.list.now a.steps.now a.pyramid.now c.requires.0 (w.m - 1) (omega arith) w.sources w.picture w.work (rw z w.invariant) _ c.step.ensures _
-    c.take_steps-in-loop-m.ensures _ _ _ c.take_back.ensures k.picture k.work
+    let k = c.take_back.auto in (
+      back_here a.list.now a.steps.now a.pyramid.now c.requires.0 (w.m - 1) (omega (arith, c.len-count.ensures)) w.sources w.picture w.work (rw z w.invariant.0) _ c.step.ensures _
+          c.take_steps-in-loop-m.ensures _ _ _ c.take_back.ensures k.picture k.work,
+      c.take_steps-in-loop-m.ensures,
+    )
 
 pub settle-requires : goal.settle-requires
 settle-requires c =
     let a = c.args in
+    let i = c.loop-m.invariant in
     let z : c.loop-m.m ≡ 0 = omega arith in
-    settle_fits a.list.now a.steps.now a.pyramid.now c.requires.0 _ _ _ (rw z at c.loop-m.invariant)
+    settle_fits a.list.now a.steps.now a.pyramid.now c.requires.0 _ (rw z at i.1) _ _ _ (rw z at i.0)
 
 pub returns : goal.returns
 returns c =
     let a = c.args in
+    let i = c.loop-m.invariant in
     let z : c.loop-m.m ≡ 0 = omega arith in
-    settled_is a.list.now a.steps.now a.pyramid.now c.requires.0 _ _ _ (rw z at c.loop-m.invariant) _ c.settle.auto.picture c.settle.ensures
+    settled_is a.list.now a.steps.now a.pyramid.now c.requires.0 _ (rw z at i.1) _ _ _ (rw z at i.0) _ c.settle.auto.picture c.settle.ensures

@@ -1,6 +1,9 @@
--- `run` meets its contract: with so many steps left, each channel has its samples (`Back` of specs/Run.antt). Assumes nothing.
-use Rattle.rebuild.specs.Run.{Back}
+-- `run` meets its contract: with so many steps left, each channel has its samples (`Back` of specs/Run.antt), and the places are those of the list.
+-- Assumes nothing.
+use mathlib.Core.Path.{◌≡◌}
+use Rattle.places.specs.Places.{places_in}
+use Rattle.rebuild.specs.Run.{places_at, Back}
 use Rattle.rebuild.proofs.run.Given as goal
 
 abbrev pub invariant-loop-m : goal.invariant-loop-m
-invariant-loop-m l = Back l.list l.steps l.m l.sources l.pyramid l.picture l.work
+invariant-loop-m l = Back l.list l.steps l.m l.sources l.pyramid l.picture l.work × (places_in l.places ≡ places_at l.list l.steps l.m)

@@ -23,6 +23,6 @@ returns c =
       p = p;
       homes_are = λ j h. sym (places_at p j (omega arith));
       ranged = c.make_range.ensures;
-      marked = c.mark.ensures;
+      marked = rw c.end.ensures at c.mark.ensures;
       closed = rw (n, ← c.residuals_at.ensures) c.close.ensures;
     }

@@ -12,12 +12,12 @@ pub loop-k-preserved : goal.loop-k-preserved
 loop-k-preserved c =
     let w = c.loop-k in
     let p = c.args.places.now in
-    laying_more start_in (λ (k : ℕ). area (place_at p k)) c.min-count.result _ w.self.entries w.at w.k w.invariant _ c.behind-at.result (omega arith) (omega arith)
+    laying_more start_in (λ (k : ℕ). area (place_at p k)) c.len-k-end.result _ w.self.entries w.at w.k w.invariant _ c.behind-at.result (omega arith) (omega arith)
     refl (c.behind-at.ensures ∙ ap (Places.behind w.at) c.area.ensures)
 
 pub returns : goal.returns
 returns c =
     let w = c.loop-k in
     let p = c.args.places.now in
-    lying_all p c.min-count.result _ w.self (omega arith)
-    (laying_all start_in (λ (k : ℕ). area (place_at p k)) c.min-count.result _ w.self.entries w.at w.k w.invariant (omega arith) (omega arith))
+    lying_all p c.len-k-end.result _ w.self c.len-k-end.ensures
+    (laying_all start_in (λ (k : ℕ). area (place_at p k)) c.len-k-end.result _ w.self.entries w.at w.k w.invariant (omega arith) (omega arith))

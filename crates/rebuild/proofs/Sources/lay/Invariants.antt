@@ -5,4 +5,4 @@ use Rattle.rebuild.proofs.Lays.{start_in}
 use Rattle.rebuild.proofs.Sources.lay.Given as goal
 
 abbrev pub invariant-loop-k : goal.invariant-loop-k
-invariant-loop-k l = Laying start_in (λ k. area (place_at l.places k)) l.count l.initial.self.entries l.self.entries l.at l.k
+invariant-loop-k l = Laying start_in (λ k. area (place_at l.places k)) l.k-end l.initial.self.entries l.self.entries l.at l.k
