@@ -1,5 +1,5 @@
 -- A step back on one part a channel (`back_parts` of crate runs), part by part: before the range, in it, and behind it. Assumes nothing.
-use mathlib.Core.Path.{◌≡◌, refl, ap, ◌∙◌}
+use mathlib.Core.Path.{◌≡◌, refl, sym, ap, ◌∙◌}
 use mathlib.Core.Bool.{Bool, true, false, cond}
 use mathlib.Core.List.{List, [], ◌∷◌, ◌++◌}
 use Prim.Native.Nat.{ℕ, zero, suc, ◌+◌, ◌-◌, ◌<◌, ◌≤◌}
@@ -12,6 +12,7 @@ use Rattle.channel.specs.Channel.{samples}
 use Rattle.list.specs.declared.Step.{Step}
 use Rattle.list.specs.Lists.{range}
 use Rattle.list.specs.Questions.{channel_of}
+use Rattle.list.proofs.Entries.{length_range}
 use Rattle.list.proofs.Maps.{left_at, right_at}
 use Rattle.places.specs.Places.{residuals_at}
 use Rattle.runs.specs.Runs.{channel_back, all_back_by, behind, residual_parts, other_parts, back_parts}
@@ -60,10 +61,10 @@ module _ (s : Step) (cs : List Channel) (ps : List (List ℤ)) (inside : s.begin
   front_long = length-take-le s.begin ps (omega arith)
 
   range_long : length (range s cs) ≡ s.number
-  range_long = let d = length-drop s.begin cs in length-take-le s.number (drop s.begin cs) (omega arith)
+  range_long = length_range s cs inside
 
   vs_long : length vs ≡ length (range s cs)
-  vs_long = let d = length-drop s.begin ps in let n = range_long in length-take-le s.number (drop s.begin ps) (omega arith) ∙ omega arith
+  vs_long = length_range s ps (omega arith) ∙ sym range_long
 
   rest_long : length rest ≡ length cs - s.begin
   rest_long = let d = length-drop (s.begin + s.number) ps in omega arith

@@ -10,7 +10,7 @@ use lib.IntN.{ℤ}
 use lib.ListN.{length}
 use Rattle.list.specs.declared.Step.{Step}
 use Rattle.list.specs.Lists.{max_channels}
-use Rattle.line.proofs.Lines.{lt_or_ge}
+use Rattle.std.proofs.lemmas.Bool.{cases_lt}
 use Rattle.places.specs.Places as Places
 use Rattle.places.specs.declared.Slot.{Slot}
 use Rattle.places.specs.declared.Place.{Place}
@@ -147,7 +147,7 @@ module _ (s : Step) (qs : List Place) (sources : Sources) (pyramid picture₀ wo
     taken_next : (picture2 work2 : List ℤ) → Wrote (is_odd (place_of qs (s.begin + i)).slot) (place_of qs (s.begin + i)).home ys picture work picture2 work2 → Taken s qs sources pyramid picture₀ work₀ (i + 1) picture2 work2
     taken_next picture2 work2 w =
         record {
-          upto = λ m b. by m b (lt_or_ge m i);
+          upto = λ m b. by m b (cases_lt m i);
           left = λ j b r. apart j b r;
           picture_long = long.0;
           work_long = long.1;

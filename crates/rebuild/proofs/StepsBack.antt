@@ -18,7 +18,7 @@ use Rattle.list.specs.Lists.{stepped}
 use Rattle.list.specs.Questions.{channel_of, judge_step}
 use Rattle.list.proofs.Tables.{table_rest}
 use Rattle.list.proofs.Entries.{stepped_length}
-use Rattle.line.proofs.Lines.{lt_or_ge}
+use Rattle.std.proofs.lemmas.Bool.{cases_lt}
 use Rattle.places.specs.declared.Place.{Place}
 use Rattle.places.specs.Places.{area, is_odd, step_places, residuals_at, root, place_of, bare}
 use Rattle.places.specs.Laid.{part}
@@ -223,7 +223,7 @@ module _ (l : ChannelList) (s : Steps) (pyramid : List ℤ) (f : RunFits l s pyr
         (back_behind st cs old cs_range old_count k g (let z = cs_long in omega arith)) (behind_source t refl k g b)
 
     fine : (k : ℕ) → k < length qs → Fine k
-    fine k b = by (lt_or_ge k st.begin) (lt_or_ge k (st.begin + st.number))
+    fine k b = by (cases_lt k st.begin) (cases_lt k (st.begin + st.number))
       where
         by : (k < st.begin) ⊎ (st.begin ≤ k) → (k < st.begin + st.number) ⊎ (st.begin + st.number ≤ k) → Fine k
         by (inl c) d = before k c
