@@ -274,12 +274,12 @@ pub fn rebuild(
 ) -> Result<(), Refusal>
     ensures { (answer_of result ≡ Rebuild.answer_of form.now.version form.now.list form.now.steps pyramid.now picture.old work.old) × (picture.new ≡ Rebuild.picture_after form.now.version form.now.list form.now.steps pyramid.now picture.old work.old) × (work.new ≡ Rebuild.work_after form.now.version form.now.list form.now.steps pyramid.now picture.old work.old) }
 {
-    let plan = form.plan()?;
+    let steps = form.plan()?.steps;
     let total = form.list.total() as usize;
     if !((pyramid.len() == total) & ((picture.len() == total) & (work.len() == total))) {
         return Err(Refusal::Length);
     }
-    run(&form.list, &plan.steps, pyramid, picture, work);
+    run(&form.list, &steps, pyramid, picture, work);
     buffer::clear(work);
     Ok(())
 }

@@ -183,12 +183,12 @@ pub fn write(
 ) -> Result<(), Refusal>
     ensures { (Numbers.answer_of result ≡ Write.answer form.now.version form.now.list form.now.steps picture.now pyramid.old work.old) × (pyramid.new ≡ Write.written form.now.version form.now.list form.now.steps picture.now pyramid.old work.old) × (work.new ≡ Write.cleared form.now.version form.now.list form.now.steps picture.now pyramid.old work.old) }
 {
-    let plan = form.plan()?;
+    let steps = form.plan()?.steps;
     let total = form.list.total() as usize;
     if !((picture.len() == total) & ((pyramid.len() == total) & (work.len() == total))) {
         return Err(Refusal::Length);
     }
-    run(&form.list, &plan.steps, picture, pyramid, work);
+    run(&form.list, &steps, picture, pyramid, work);
     buffer::clear(work);
     Ok(())
 }

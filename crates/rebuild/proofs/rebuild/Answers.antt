@@ -6,13 +6,13 @@ use Rattle.plan.proofs.Judged.{plan_answer}
 use Rattle.rebuild.proofs.Outcome.{run_fits, run_is, ends_refused, ends_misfit, lengths, ends_done}
 use Rattle.rebuild.proofs.rebuild.Goals as goal
 
-pub returns-in_err-plan : goal.returns-in_err-plan
-returns-in_err-plan c =
+pub returns-in_err-steps : goal.returns-in_err-steps
+returns-in_err-steps c =
     let a = c.args in
     let f = a.form.now in
-    let r = c.in_err-plan.field-0.0 in
+    let r = c.in_err-steps.field-0.0 in
     let e : answer_of c.from_residual.result ≡ number_of r = search rules in
-    let ea = plan_answer f.version f.list f.steps _ c.in_err-plan.ensures.reached in
+    let ea = plan_answer f.version f.list f.steps _ c.in_err-steps.ensures.reached in
     let w = ends_refused f.version f.list f.steps a.pyramid.now a.picture.now a.work.now _ ea (number_some r) in
     (e ∙ w.0, w.1, w.2)
 
@@ -20,14 +20,14 @@ pub returns-then-not-pyramid-total : goal.returns-then-not-pyramid-total
 returns-then-not-pyramid-total c =
     let a = c.args in
     let f = a.form.now in
-    ends_misfit f.version f.list f.steps a.pyramid.now a.picture.now a.work.now _ (plan_answer f.version f.list f.steps _ c.in_ok-plan.ensures.reached) refl
+    ends_misfit f.version f.list f.steps a.pyramid.now a.picture.now a.work.now _ (plan_answer f.version f.list f.steps _ c.in_ok-steps.ensures.reached) refl
     c.total-total.result c.total-total.ensures c.if-not-pyramid-total.true
 
 pub run-requires : goal.run-requires
 run-requires c =
     let a = c.args in
     let f = a.form.now in
-    let p = c.in_ok-plan.ensures in
+    let p = c.in_ok-steps.ensures in
     let ea = plan_answer f.version f.list f.steps _ p.reached in
     let t = c.total-total in
     let n = lengths f.version f.list f.steps a.pyramid.now a.picture.now a.work.now _ ea refl t.result t.ensures c.if-not-pyramid-total.false in
@@ -37,7 +37,7 @@ pub returns : goal.returns
 returns c =
     let a = c.args in
     let f = a.form.now in
-    let p = c.in_ok-plan.ensures in
+    let p = c.in_ok-steps.ensures in
     let ea = plan_answer f.version f.list f.steps _ p.reached in
     let t = c.total-total in
     ends_done f.version f.list f.steps a.pyramid.now a.picture.now a.work.now _ ea refl t.result t.ensures c.if-not-pyramid-total.false _ _ _

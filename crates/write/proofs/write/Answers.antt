@@ -7,27 +7,27 @@ use Rattle.plan.proofs.Judged.{plan_answer}
 use Rattle.write.proofs.Answered.{plan_refused, slices_refused, run_asks, accepted}
 use Rattle.write.proofs.write.Goals as goal
 
-pub returns-in_err-plan : goal.returns-in_err-plan
-returns-in_err-plan c =
+pub returns-in_err-steps : goal.returns-in_err-steps
+returns-in_err-steps c =
     let a = c.args in
     let f = a.form.now in
-    let r = c.in_err-plan.field-0.0 in
+    let r = c.in_err-steps.field-0.0 in
     let e : answer_of {A = Unit {0}} c.from_residual.result ≡ number_of r = search rules in
     rw e
-    (plan_refused f.version f.list f.steps a.picture.now a.pyramid.now a.work.now _ (plan_answer f.version f.list f.steps _ c.in_err-plan.ensures.reached) (number_some r))
+    (plan_refused f.version f.list f.steps a.picture.now a.pyramid.now a.work.now _ (plan_answer f.version f.list f.steps _ c.in_err-steps.ensures.reached) (number_some r))
 
 pub returns-then-not-picture-total : goal.returns-then-not-picture-total
 returns-then-not-picture-total c =
     let a = c.args in
     let f = a.form.now in
-    let ea = plan_answer f.version f.list f.steps _ c.in_ok-plan.ensures.reached in
+    let ea = plan_answer f.version f.list f.steps _ c.in_ok-steps.ensures.reached in
     slices_refused f.version f.list f.steps a.picture.now a.pyramid.now a.work.now _ ea refl _ c.total-total.ensures c.if-not-picture-total.true
 
 pub run-requires : goal.run-requires
 run-requires c =
     let a = c.args in
     let f = a.form.now in
-    let p = c.in_ok-plan.ensures in
+    let p = c.in_ok-steps.ensures in
     run_asks f.version f.list f.steps a.picture.now a.pyramid.now a.work.now _ (plan_answer f.version f.list f.steps _ p.reached) refl _ c.total-total.ensures
     c.if-not-picture-total.false _ p.meant p.room
 
@@ -35,6 +35,6 @@ pub returns : goal.returns
 returns c =
     let a = c.args in
     let f = a.form.now in
-    let p = c.in_ok-plan.ensures in
+    let p = c.in_ok-steps.ensures in
     accepted f.version f.list f.steps a.picture.now a.pyramid.now a.work.now _ (plan_answer f.version f.list f.steps _ p.reached) refl _ c.total-total.ensures
     c.if-not-picture-total.false _ p.meant p.room _ _ _ c.run.ensures c.run.auto.work c.clear.ensures
