@@ -1,3 +1,2 @@
 pub mod Allowed
 pub mod Tiles
-pub mod Chosen

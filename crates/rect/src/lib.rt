@@ -17,7 +17,7 @@ const LF_GROUPS: u32 = 8;
 
 // Where a tile starts in what is stored, and its sides; all 0 for a tile without
 // samples.
-#[derive(Clone, Copy, PartialEq, Eq, Debug)]
+#[derive(Clone, Copy, PartialEq, Eq, Debug, Default)]
 pub struct Rect {
     pub x: u32,
     pub y: u32,
@@ -25,7 +25,8 @@ pub struct Rect {
     pub height: u32,
 }
 
-// One direction of a tile: where it starts in what is stored, and its size.
+// One direction of a tile that is not empty: where it starts in what is stored, and
+// its size.
 #[derive(Clone, Copy)]
 struct Span {
     start: u32,
@@ -56,6 +57,7 @@ impl StoredStart {
     }
 }
 
+#[tactic(auto, unfolding(crate::specs::Rect::whole))]
 fn whole(channel: Channel) -> Rect
     ensures { Spec.told result ≡ Spec.whole channel }
 {
@@ -67,6 +69,7 @@ fn whole(channel: Channel) -> Rect
     }
 }
 
+#[tactic(auto, unfolding(crate::specs::Rect::group_allowed))]
 fn is_group_allowed(group: u32) -> bool
     ensures { result ≡ Spec.group_allowed group }
 {
@@ -87,8 +90,8 @@ fn size_from(side: u32, start: u32, tile: u32) -> u32
     side.saturating_sub(start).min(tile)
 }
 
-// One direction of a tile. Only one that is not empty has an LF tile above 0,
-// and so a start.
+// One direction of a tile; none where it is empty. Only one that is not empty has an
+// LF tile above 0, and so a start.
 fn span_of(
     rule: StoredStart,
     dimension: u32,
@@ -96,21 +99,21 @@ fn span_of(
     side: u32,
     shift: u8,
     position: u16,
-) -> Span
+) -> Option<Span>
     requires { Parts.Dimensions dimension group × (shift ≤ max_shift) }
-    ensures { Parts.IsSpan (Parts.rule_of rule) dimension group side shift position result.start result.size }
+    ensures { result ≡ Parts.span_of (Parts.rule_of rule) dimension group side shift position }
 {
     let tile = tile_side(dimension, shift);
     let start = (position as u32) * tile;
     let size = size_from(side, start, tile);
     if size == 0 {
-        return Span { start: 0, size: 0 };
+        return None;
     }
     let lf = tile_side(LF_GROUPS * group, shift);
-    Span {
+    Some(Span {
         start: rule.start(start, lf),
         size,
-    }
+    })
 }
 
 fn tile(
@@ -129,25 +132,46 @@ fn tile(
     }
     let across = span_of(rule, dimension, group, channel.width, channel.hshift, gx);
     let down = span_of(rule, dimension, group, channel.height, channel.vshift, gy);
-    if (across.size == 0) | (down.size == 0) {
-        return Ok(Rect {
-            x: 0,
-            y: 0,
-            width: 0,
-            height: 0,
-        });
+    match (across, down) {
+        (Some(across), Some(down)) => Ok(Rect {
+            x: across.start,
+            y: down.start,
+            width: across.size,
+            height: down.size,
+        }),
+        _ => Ok(Rect::default()),
     }
-    Ok(Rect {
-        x: across.start,
-        y: down.start,
-        width: across.size,
-        height: down.size,
-    })
 }
 
 // Kinds are None (0), LF (1) and HF (2); the first of a pair is the output kind, the
-// second the stored kind. They stay numbers, matched once over the pairs: any byte may
-// come, and enums of three would ask more of callers.
+// second the stored kind. A rule of the project has both as numbers, with one match over
+// the combinations: any byte may come, and enums of three would ask more of callers.
+#[tactic(auto, unfolding(crate::specs::Rect::by_kinds))]
+fn rect_by_kinds(
+    channel: Channel,
+    output: u8,
+    stored: u8,
+    group: u32,
+    gx: u16,
+    gy: u16,
+) -> Result<Rect, Refusal>
+    requires { (group ≤ Parts.max_group) × (is_allowed channel ≡ true) }
+    ensures { Spec.answered result ≡ Spec.by_kinds output stored channel group gx gy }
+{
+    let lf = LF_GROUPS * group;
+    match (output, stored) {
+        (0, 0) => Ok(whole(channel)),
+        (1, 0) => tile(StoredStart::Itself, lf, channel, group, gx, gy),
+        (1, 1) => tile(StoredStart::Zero, lf, channel, group, gx, gy),
+        (2, 0) => tile(StoredStart::Itself, group, channel, group, gx, gy),
+        (2, 1) => tile(StoredStart::WithinLf, group, channel, group, gx, gy),
+        (2, 2) => tile(StoredStart::Zero, group, channel, group, gx, gy),
+        _ => Err(Refusal::Tile),
+    }
+}
+
+// Judges the channel's form, then the group dimension, then the kinds.
+#[tactic(auto, using(crate::proofs::Allowed::group_small), unfolding(crate::specs::Rect::rect_of))]
 pub fn get_grid_rect(
     channel: Channel,
     output: u8,
@@ -164,14 +188,5 @@ pub fn get_grid_rect(
     if !is_group_allowed(group) {
         return Err(Refusal::Tile);
     }
-    let lf = LF_GROUPS * group;
-    match (output, stored) {
-        (0, 0) => Ok(whole(channel)),
-        (1, 0) => tile(StoredStart::Itself, lf, channel, group, gx, gy),
-        (1, 1) => tile(StoredStart::Zero, lf, channel, group, gx, gy),
-        (2, 0) => tile(StoredStart::Itself, group, channel, group, gx, gy),
-        (2, 1) => tile(StoredStart::WithinLf, group, channel, group, gx, gy),
-        (2, 2) => tile(StoredStart::Zero, group, channel, group, gx, gy),
-        _ => Err(Refusal::Tile),
-    }
+    rect_by_kinds(channel, output, stored, group, gx, gy)
 }

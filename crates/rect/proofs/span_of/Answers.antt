@@ -14,21 +14,6 @@ overflow_mul-start c =
     let t : c.tile_side-tile.result ≤ lf_dimension max_group = omega (arith, shr_le a.dimension a.shift) in
     omega (arith, mul-le-mul_left a.position t)
 
-pub returns-then-size-eq0 : goal.returns-then-size-eq0
-returns-then-size-eq0 c =
-    record {
-      sized = rw (c.tile_side-tile.ensures, c.if-size-eq0.true) at c.size_from-size.ensures;
-      starts = λ h. absurd (omega arith);
-    }
-
 pub start-requires : goal.start-requires
 start-requires c =
     omega (arith, shr_mono c.args.shift c.requires.0.within)
-
-pub returns : goal.returns
-returns c =
-    let side = c.tile_side-tile.ensures in
-    record {
-      sized = rw side at c.size_from-size.ensures;
-      starts = λ h. rw (side, c.tile_side-lf.ensures) at c.start.ensures;
-    }

@@ -1,15 +1,13 @@
 -- `tile` meets its contract: a channel that is not meta has shifts up to 30 (proofs/Allowed.antt), and its two directions make the rectangle
 -- (proofs/Tiles.antt). Assumes nothing.
-use mathlib.Core.Bool.{true, false}
-use mathlib.Core.Path.{◌≡◌, sym, ◌∙◌}
+use mathlib.Core.Bool.{true}
+use mathlib.Core.Path.{◌≡◌, refl, sym, ◌∙◌}
 use Rattle.channel.specs.Channel.{is_meta}
 use Rattle.rect.specs.Rect.{tile_unless_meta}
 use Rattle.rect.proofs.Allowed.{shifts_small}
-use Rattle.rect.proofs.Tiles as Tiles
+use Rattle.rect.proofs.Tiles.{tile_joined}
 use Rattle.rect.proofs.tile.Goals as goal
-
-plain : (c : goal.Else-is_meta) → is_meta c.args.channel ≡ false
-plain c = sym c.is_meta.ensures ∙ c.if-is_meta.false
+use Rattle.rect.proofs.tile.Goals.{in_default-via-in-Some+in_default, in_default-via-in_default}
 
 pub returns-then-is_meta : goal.returns-then-is_meta
 unfolding tile_unless_meta
@@ -19,17 +17,29 @@ returns-then-is_meta c =
 
 pub span_of-across-requires : goal.span_of-across-requires
 span_of-across-requires c =
-    (c.requires.0, (shifts_small c.args.channel (plain c) c.requires.1).0)
+    (c.requires.0, (shifts_small c.args.channel (sym c.is_meta.ensures ∙ c.if-is_meta.false) c.requires.1).0)
 
 pub span_of-down-requires : goal.span_of-down-requires
 span_of-down-requires c =
-    (c.requires.0, (shifts_small c.args.channel (plain c.before) c.requires.1).1)
+    (c.requires.0, (shifts_small c.args.channel (sym c.is_meta.ensures ∙ c.if-is_meta.false) c.requires.1).1)
 
-pub returns-then-across-down : goal.returns-then-across-down
-returns-then-across-down c =
-    Tiles.empty c.args.channel (plain c.before.before.before.before.before) c.span_of-across.ensures c.span_of-down.ensures
-    c.if-across-down.true
+pub returns-in-Some-Some : goal.returns-in-Some-Some
+returns-in-Some-Some c =
+    tile_joined _ _ _ _ _ c.args.channel (sym c.is_meta.ensures ∙ c.if-is_meta.false)
+    (sym c.in-Some-Some.is-0 ∙ c.span_of-across.ensures)
+    (sym c.in-Some-Some.is-1 ∙ c.span_of-down.ensures)
 
-pub returns : goal.returns
-returns c =
-    Tiles.filled c.args.channel (plain c.before.before.before.before.before) c.span_of-across.ensures c.span_of-down.ensures c.if-across-down.false
+pub returns-in_default : goal.returns-in_default
+returns-in_default c =
+    let none = c.default.ensures in
+    rw (none.0, none.1.0, none.1.1.0, none.1.1.1)
+    (elim c.in_default.branch [
+      | in_default-via-in-Some+in_default w ↦
+          tile_joined _ _ _ _ _ c.args.channel (sym c.is_meta.ensures ∙ c.if-is_meta.false)
+          (sym w.in_default.is-0 ∙ c.span_of-across.ensures)
+          (sym w.in_default.is-1 ∙ c.span_of-down.ensures)
+      | in_default-via-in_default w ↦
+          tile_joined _ _ _ _ _ c.args.channel (sym c.is_meta.ensures ∙ c.if-is_meta.false)
+          (sym w.in_default.is-0 ∙ c.span_of-across.ensures)
+          refl
+    ])
