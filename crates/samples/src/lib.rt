@@ -3,10 +3,16 @@
 // where nothing was written. Total.
 #![tactic(auto)]
 
-ghost use Rattle.std.specs.Prelude.{◌≡◌, ◌<◌, ◌≤◌, length};
+ghost use Rattle.std.specs.Prelude.{◌≡◌, ◌<◌, ◌≤◌, length, All};
+ghost use Rattle.std.specs.Result.{result_ok};
 ghost use Rattle.samples.specs.Samples.{byte_at, word_at, sample_at, stored};
-ghost use Rattle.samples.specs.Rooms.{Holds, Exactly};
+ghost use Rattle.samples.specs.Rooms.{Holds, Guarded, Exactly};
 ghost use Rattle.samples.specs.Rooms as Rooms;
+
+use std::num::TryFromIntError;
+
+// Samples before and after those that a room lends, at least.
+pub const GUARD: usize = 16;
 
 fn byte_at(bytes: &[u8], at: usize) -> u8
     ensures { result ≡ byte_at bytes.now at }
@@ -38,6 +44,21 @@ pub fn sample_at(bytes: &[u8], at: usize) -> i32
     arith32::from_bits(word_at(bytes, at))
 }
 
+// The number that starts at `at` in a narrower type; none where it doesn't fit.
+pub fn narrow_at<T: TryFrom<u32, Error = TryFromIntError>>(bytes: &[u8], at: usize) -> Option<T>
+    ensures { (r : _) × T.try_from_gives (word_at bytes.now at) r × (result ≡ result_ok r) }
+{
+    T::try_from(word_at(bytes, at)).ok()
+}
+
+// An array of a type's default values, zeros for numbers. A large one is made by a call,
+// since a proof that meets the values themselves counts them one by one.
+pub fn zeros<T: Copy + Default, const N: usize>() -> [T; N]
+    ensures { All T.is_default result }
+{
+    [T::default(); N]
+}
+
 // Fills s with the samples in `bytes`, and zeros past their end.
 pub fn decode(bytes: &[u8], s: &mut [i32])
     ensures { Holds (stored bytes.now) s.new 0 (length s.old) }
@@ -51,7 +72,9 @@ pub fn decode(bytes: &[u8], s: &mut [i32])
 pub fn same(bytes: &[u8], s: &[i32]) -> bool
     ensures { Exactly result (Holds (stored bytes.now) s.now 0 (length s.now)) }
 {
-    (0..s.len()).all(|i| s[i] == sample_at(bytes, 4 * i))
+    s.iter()
+        .enumerate()
+        .all(|(i, x)| *x == sample_at(bytes, 4 * i))
 }
 
 #[tactic(auto, using(std::proofs::lemmas::Int::to_z_pos), unfolding(crate::specs::Rooms::mark))]
@@ -74,5 +97,22 @@ pub fn fill(s: &mut [i32])
 pub fn kept(s: &[i32], from: usize, to: usize) -> bool
     ensures { Exactly result ((to ≤ length s.now) × Holds Rooms.mark s.now from to) }
 {
-    to <= s.len() && (from..to).all(|i| s[i] == mark(i))
+    to <= s.len()
+        && s.iter()
+            .enumerate()
+            .take(to)
+            .skip(from)
+            .all(|(i, x)| *x == mark(i))
+}
+
+// Whether a room holds the n samples in `bytes`, zeros past their end, behind its first
+// guard, and its marks around them.
+pub fn holds(room: &[i32], n: u32, bytes: &[u8]) -> bool
+    ensures { Exactly result (Guarded (stored bytes.now) n room.now) }
+{
+    let to = GUARD + n as usize;
+    if room.len() < to + GUARD {
+        return false;
+    }
+    kept(room, 0, GUARD) & same(bytes, &room[GUARD..to]) & kept(room, to, room.len())
 }
