@@ -1,33 +1,41 @@
 // How a test program reads its cases, one after the other, from standard input,
-// and says how many came out right. No contract says what is read or written: none
-// can say it of standard streams.
+// and says how many came out right. The contracts say which bytes are taken of an input
+// whose bytes are known; those of standard streams are not.
 #![tactic(auto)]
 
-ghost use Rattle.std.specs.Prelude.{◌≤◌, length, IfOk};
+ghost use Rattle.replay.specs.Taken.{TakesWord, TakesCase};
+ghost use Rattle.std.specs.Prelude.{◌≡◌, ◌<◌, ◌≤◌, ◌/◌, length, IfOk, IfSome};
 
 use std::io;
 use std::io::Read;
 
-// The next number of the input; past its end 0.
-pub fn read_word<R: Read>(input: &mut R) -> io::Result<u32> {
+// The next number of the input; none where its four bytes are not whole.
+pub fn read_word<R: Read>(input: &mut R) -> io::Result<Option<u32>>
+    ensures { IfOk result (λ word. IfSome word (λ n. TakesWord (R.remaining input.old) (R.remaining input.new) n)) }
+{
     let mut bytes = [0u8; 4];
-    reading::read_full(input, &mut bytes)?;
-    Ok(samples::word_at(&bytes, 0))
+    if reading::read_full(input, &mut bytes)? < 4 {
+        return Ok(None);
+    }
+    Ok(Some(samples::word_at(&bytes, 0)))
 }
 
-// Puts the next bytes, whose number stands before them, at the start of `space`;
-// how many there are, or 0 if they are not whole.
-pub fn read_case<R: Read>(input: &mut R, space: &mut [u8]) -> io::Result<usize>
-    ensures { IfOk result (λ n. n ≤ length space.old) }
+// Puts the next bytes, whose number stands before them, at the start of `space`, and
+// lends them; none where they are not whole, or have no room there.
+pub fn read_case<'s, R: Read>(input: &mut R, space: &'s mut [u8]) -> io::Result<Option<&'s [u8]>>
+    ensures room { IfOk result (λ case. IfSome case (λ bytes. length bytes.now ≤ length space.old)) }
+    ensures taken { IfOk result (λ case. IfSome case (λ bytes. TakesCase (R.remaining input.old) (R.remaining input.new) bytes.now)) }
 {
-    let n = read_word(input)? as usize;
-    if space.len() < n {
-        return Ok(0);
+    let Some(n) = read_word(input)? else {
+        return Ok(None);
+    };
+    let Some(room) = space.get_mut(..n as usize) else {
+        return Ok(None);
+    };
+    if reading::read_full(input, room)? < n as usize {
+        return Ok(None);
     }
-    if reading::read_full(input, &mut space[0..n])? < n {
-        return Ok(0);
-    }
-    Ok(n)
+    Ok(Some(room))
 }
 
 // "kind", the cases of this kind and how many of them are right, on one line.
@@ -52,11 +60,12 @@ pub fn count<R: Read, F: FnMut(&[u8]) -> bool>(
     requires { F.IsAlwaysCallable agrees }
     ensures { IfOk result (λ tally. tally.right ≤ tally.cases) }
 {
-    let cases = read_word(input)?;
+    let cases = read_word(input)?.unwrap_or(0);
     let mut right = 0u64;
     for _ in 0..cases {
-        let n = read_case(input, space)?;
-        if agrees(&space[..n]) {
+        if let Some(case) = read_case(input, space)?
+            && agrees(case)
+        {
             right += 1;
         }
     }
@@ -64,4 +73,19 @@ pub fn count<R: Read, F: FnMut(&[u8]) -> bool>(
         cases: cases as u64,
         right,
     })
+}
+
+// Counts, of the cases of `size` bytes that stand one after the other, the whole ones and
+// those of them that `agrees` finds right.
+pub fn count_in<F: Fn(&[u8]) -> bool>(bytes: &[u8], size: usize, agrees: F) -> Tally
+    requires some { 0 < size }
+    requires callable { F.IsAlwaysCallable agrees }
+    ensures cases { result.cases ≡ length bytes.now / size }
+    ensures right { result.right ≤ result.cases }
+{
+    let cases = bytes.chunks_exact(size);
+    Tally {
+        cases: cases.len() as u64,
+        right: cases.filter(|case| agrees(case)).count() as u64,
+    }
 }
