@@ -9,7 +9,7 @@ ghost use Rattle.std.specs.Prelude.{◌<◌, ◌≤◌};
 use list::{ChannelList, Step};
 use numbers::Refusal;
 use plan::{Form, Steps};
-use samples::{sample_at, word_at};
+use samples::{narrow_at, sample_at, word_at};
 use std::io;
 use std::io::Read;
 
@@ -23,16 +23,7 @@ const CASE: usize = 16_384;
 fn number_at(bytes: &[u8], at: usize) -> usize
     ensures { result < 0x8000_0000 }
 {
-    let s = sample_at(bytes, at);
-    if s < 0 { 0 } else { s as usize }
-}
-
-fn number16_at(bytes: &[u8], at: usize) -> u16 {
-    u16::try_from(number_at(bytes, at)).unwrap_or(0)
-}
-
-fn number8_at(bytes: &[u8], at: usize) -> u8 {
-    u8::try_from(number_at(bytes, at)).unwrap_or(0)
+    usize::try_from(sample_at(bytes, at)).unwrap_or(0)
 }
 
 // The bytes from `at` on; none past the end.
@@ -72,16 +63,17 @@ fn list_of(bytes: &[u8]) -> ChannelList {
     list
 }
 
-// The plan that the bytes begin with, in the same form.
+// The plan that the bytes begin with, in the same form. A number that is too large for
+// its type is 0, here and below.
 fn steps_of(bytes: &[u8]) -> Steps {
     let written = number_at(bytes, 4);
     let mut steps = Steps::empty();
     steps.count = number_at(bytes, 0);
     for k in 0..ChannelList::MAX_STEPS {
         let e = 8 + ENTRY * entry(k, written);
-        let flags = number8_at(bytes, e);
-        let begin = number16_at(bytes, e + 4);
-        let number = number16_at(bytes, e + 8);
+        let flags = narrow_at(bytes, e).unwrap_or(0);
+        let begin = narrow_at(bytes, e + 4).unwrap_or(0);
+        let number = narrow_at(bytes, e + 8).unwrap_or(0);
         steps.flags[k] = flags;
         steps.begins[k] = begin;
         steps.numbers[k] = number;
@@ -99,25 +91,38 @@ fn form_of(bytes: &[u8]) -> Form {
     }
 }
 
-fn is_refusal(refusal: Refusal, answer: usize) -> bool {
-    refusal.number() as usize == answer
+// Whether what was found has the answer of the file, 0 or a refusal's number, and a value
+// that `is_right` takes; after a refusal it has none.
+fn agrees<T, F: FnOnce(Option<T>) -> bool>(
+    found: Result<T, Refusal>,
+    answer: usize,
+    is_right: F,
+) -> bool
+    requires { F.IsAlwaysCallable is_right }
+{
+    let (number, value) = match found {
+        Ok(value) => (0, Some(value)),
+        Err(refusal) => (refusal.number() as usize, None),
+    };
+    (number == answer) & is_right(value)
 }
 
-// Whether what was found is the list that the bytes begin with, where the answer is 0,
-// or the refusal of that number.
+// Whether it is the list that the bytes begin with, or a refusal.
 fn is_list(found: Result<ChannelList, Refusal>, answer: usize, bytes: &[u8]) -> bool {
-    match found {
-        Ok(list) => (answer == 0) & (list == list_of(bytes)),
-        Err(refusal) => is_refusal(refusal, answer),
-    }
+    agrees(
+        found,
+        answer,
+        |list| list.is_none_or(|list| list == list_of(bytes)),
+    )
 }
 
 // The same of a plan; a refusal has no step.
 fn are_steps(found: Result<Steps, Refusal>, answer: usize, bytes: &[u8]) -> bool {
-    match found {
-        Ok(steps) => (answer == 0) & (steps == steps_of(bytes)),
-        Err(refusal) => is_refusal(refusal, answer) & (Steps::empty() == steps_of(bytes)),
-    }
+    agrees(
+        found,
+        answer,
+        |steps| steps.unwrap_or(Steps::empty()) == steps_of(bytes),
+    )
 }
 
 fn step_agrees(bytes: &[u8]) -> bool {
@@ -126,14 +131,11 @@ fn step_agrees(bytes: &[u8]) -> bool {
     let step = Step {
         horizontal: number_at(rest, 0) == 1,
         inplace: number_at(rest, 4) == 1,
-        begin: number16_at(rest, 8),
-        number: number16_at(rest, 12),
+        begin: narrow_at(rest, 8).unwrap_or(0),
+        number: narrow_at(rest, 12).unwrap_or(0),
     };
     let answer = number_at(rest, 16);
-    let checked = match list.check_squeeze_params(step) {
-        Ok(()) => answer == 0,
-        Err(refusal) => is_refusal(refusal, answer),
-    };
+    let checked = agrees(list.check_squeeze_params(step), answer, |_| true);
     checked & is_list(list.step(step), answer, from(rest, 20))
 }
 
@@ -159,12 +161,13 @@ fn meant_agrees(bytes: &[u8]) -> bool {
 fn coarse_agrees(bytes: &[u8]) -> bool {
     let list = from(bytes, 4);
     let rest = after(list);
-    let answer = number_at(rest, 0);
     let count = number_at(rest, 4);
-    match plan::coarse_count(word_at(bytes, 0), &list_of(list)) {
-        Ok(coarse) => (answer == 0) & (coarse == count),
-        Err(refusal) => is_refusal(refusal, answer) & (count == 0),
-    }
+    let coarse = plan::coarse_count(word_at(bytes, 0), &list_of(list));
+    agrees(
+        coarse,
+        number_at(rest, 0),
+        |coarse| coarse.unwrap_or(0) == count,
+    )
 }
 
 // Replays the cases of the next source and kind and says how many `agrees` finds right.

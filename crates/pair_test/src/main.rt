@@ -7,7 +7,8 @@
 ghost use Rattle.std.specs.Prelude.{◌<◌};
 
 use pair::Pair;
-use samples::sample_at;
+use replay::{count_in, say};
+use samples::{sample_at, zeros};
 use std::{array, io};
 use tendency::{Branching, Branchless};
 
@@ -55,34 +56,12 @@ fn block_agrees(case: &[u8]) -> bool {
     made == [eight(case, 4), eight(case, 5)]
 }
 
-// How many cases of so many bytes come out right.
-fn right_of<F: Fn(&[u8]) -> bool>(bytes: &[u8], size: usize, agrees: F) -> u64
-    requires some { 0 < size }
-    requires callable { F.IsAlwaysCallable agrees }
-{
-    bytes.chunks_exact(size).filter(|case| agrees(case)).count() as u64
-}
-
-// An array of this size has a function of its own: a proof that meets the zeros
-// themselves counts them one by one.
-fn input_room() -> [u8; INPUT] {
-    [0; INPUT]
-}
-
 fn main(rt: HostRuntime) -> io::Result<()> {
-    let mut buffer = input_room();
+    let mut buffer = zeros::<u8, INPUT>();
     let n = reading::read_full(&mut rt.reader(), &mut buffer)?;
     let bytes = &buffer[..n];
-    replay::say(
-        &rt,
-        "pairs ",
-        (n / PAIR) as u64,
-        right_of(bytes, PAIR, pair_agrees),
-    )?;
-    replay::say(
-        &rt,
-        "blocks ",
-        (n / BLOCK) as u64,
-        right_of(bytes, BLOCK, block_agrees),
-    )
+    let pairs = count_in(bytes, PAIR, pair_agrees);
+    say(&rt, "pairs ", pairs.cases, pairs.right)?;
+    let blocks = count_in(bytes, BLOCK, block_agrees);
+    say(&rt, "blocks ", blocks.cases, blocks.right)
 }

@@ -16,6 +16,22 @@ use samples::word_at;
 use std::io;
 use std::io::Read;
 
+// The kinds of records, in the order of `stdin`.
+const RECORDS: [&str; 12] = [
+    "printed ",
+    "cuts ",
+    "refusals ",
+    "order ",
+    "limits ",
+    "sizes ",
+    "metas ",
+    "plans ",
+    "bytes ",
+    "strips ",
+    "versions ",
+    "origins ",
+];
+
 // Room for a record or an input.
 const INPUT_ROOM: usize = 10_240;
 
@@ -281,13 +297,15 @@ fn kind<R: Read, F: Fn(&[u8], &[u8], &[u8]) -> bool>(
     let mut bytes = [0u8; INPUT_ROOM];
     let mut text = [0u8; LISTING_ROOM];
     let mut rows = [0u8; LAYOUT_ROOM];
-    let cases = read_word(input)?;
+    let cases = read_word(input)?.unwrap_or(0);
     let mut right = 0u64;
     for _ in 0..cases {
-        let n = read_case(input, &mut bytes)?;
-        let m = read_case(input, &mut text)?;
-        let r = read_case(input, &mut rows)?;
-        if agrees(&bytes[..n], &text[..m], &rows[..r]) {
+        let bytes = read_case(input, &mut bytes)?;
+        let text = read_case(input, &mut text)?;
+        let rows = read_case(input, &mut rows)?;
+        if let (Some(bytes), Some(text), Some(rows)) = (bytes, text, rows)
+            && agrees(bytes, text, rows)
+        {
             right += 1;
         }
     }
@@ -296,23 +314,13 @@ fn kind<R: Read, F: Fn(&[u8], &[u8], &[u8]) -> bool>(
 
 fn main(rt: HostRuntime) -> io::Result<()> {
     let mut input = rt.reader();
-    kind(&rt, &mut input, "printed ", record_agrees)?;
-    kind(&rt, &mut input, "cuts ", record_agrees)?;
-    kind(&rt, &mut input, "refusals ", record_agrees)?;
-    kind(&rt, &mut input, "order ", record_agrees)?;
-    kind(&rt, &mut input, "limits ", record_agrees)?;
-    kind(&rt, &mut input, "sizes ", record_agrees)?;
-    kind(&rt, &mut input, "metas ", record_agrees)?;
-    kind(&rt, &mut input, "plans ", record_agrees)?;
-    kind(&rt, &mut input, "bytes ", record_agrees)?;
-    kind(&rt, &mut input, "strips ", record_agrees)?;
-    kind(&rt, &mut input, "versions ", record_agrees)?;
-    kind(&rt, &mut input, "origins ", record_agrees)?;
+    for name in RECORDS {
+        kind(&rt, &mut input, name, record_agrees)?;
+    }
     kind(
         &rt,
         &mut input,
         "inputs ",
         |input, text, _| prints(input, text),
-    )?;
-    Ok(())
+    )
 }

@@ -6,7 +6,7 @@
 use channel::Channel;
 use numbers::answer_of;
 use rect::Rect;
-use samples::word_at;
+use samples::{narrow_at, word_at, zeros};
 use std::io;
 
 // A case of `stdin`: the channel's width, height and two shifts, the output
@@ -16,16 +16,6 @@ const CASE: usize = 56;
 
 // Room for the whole input.
 const INPUT: usize = 524_288;
-
-// The number at `at` as 16 bits; a larger one is the largest.
-fn position_at(bytes: &[u8], at: usize) -> u16 {
-    u16::try_from(word_at(bytes, at)).unwrap_or(u16::MAX)
-}
-
-// The number at `at` as 8 bits; a larger one is the largest.
-fn byte_at(bytes: &[u8], at: usize) -> u8 {
-    u8::try_from(word_at(bytes, at)).unwrap_or(u8::MAX)
-}
 
 // The rectangle that a case wants.
 fn wanted(case: &[u8]) -> Rect {
@@ -37,48 +27,30 @@ fn wanted(case: &[u8]) -> Rect {
     }
 }
 
-// Whether a case comes out right; after a refusal its rectangle is all zeros.
+// Whether a case comes out right; after a refusal its rectangle is all zeros. A number
+// that is too large for its type is the largest.
 fn case_agrees(case: &[u8]) -> bool {
     let channel = Channel {
         width: word_at(case, 0),
         height: word_at(case, 4),
-        hshift: byte_at(case, 8),
-        vshift: byte_at(case, 12),
+        hshift: narrow_at(case, 8).unwrap_or(u8::MAX),
+        vshift: narrow_at(case, 12).unwrap_or(u8::MAX),
     };
     let found = rect::get_grid_rect(
         channel,
-        byte_at(case, 16),
-        byte_at(case, 20),
+        narrow_at(case, 16).unwrap_or(u8::MAX),
+        narrow_at(case, 20).unwrap_or(u8::MAX),
         word_at(case, 24),
-        position_at(case, 28),
-        position_at(case, 32),
+        narrow_at(case, 28).unwrap_or(u16::MAX),
+        narrow_at(case, 32).unwrap_or(u16::MAX),
     );
-    let nothing = Rect {
-        x: 0,
-        y: 0,
-        width: 0,
-        height: 0,
-    };
     let answer = answer_of(found.map(|_| ()));
-    (answer == word_at(case, 36)) & (found.unwrap_or(nothing) == wanted(case))
-}
-
-fn cases_agree(bytes: &[u8]) -> u64 {
-    bytes
-        .chunks_exact(CASE)
-        .filter(|case| case_agrees(case))
-        .count() as u64
-}
-
-// An array of this size has a function of its own: a proof that meets the zeros
-// themselves counts them one by one.
-fn input_room() -> [u8; INPUT] {
-    [0; INPUT]
+    (answer == word_at(case, 36)) & (found.unwrap_or_default() == wanted(case))
 }
 
 fn main(rt: HostRuntime) -> io::Result<()> {
-    let mut buffer = input_room();
+    let mut buffer = zeros::<u8, INPUT>();
     let n = reading::read_full(&mut rt.reader(), &mut buffer)?;
-    let bytes = &buffer[..n];
-    replay::say(&rt, "rects ", (n / CASE) as u64, cases_agree(bytes))
+    let rects = replay::count_in(&buffer[..n], CASE, case_agrees);
+    replay::say(&rt, "rects ", rects.cases, rects.right)
 }

@@ -7,18 +7,29 @@
 #![tactic(auto)]
 
 use numbers::{Refusal, answer_of};
-use samples::{decode, fill, kept, same, word_at};
+use samples::{GUARD, decode, fill, holds, kept, same, word_at, zeros};
 use squeeze::whole_runs::{squeeze_rebuild, squeeze_write};
 use std::io;
 use std::io::Read;
+
+// The kinds of cases, in the order of `stdin`.
+const KINDS: [&str; 10] = [
+    "vectors ",
+    "sizes ",
+    "plans ",
+    "metas ",
+    "limits ",
+    "refusals ",
+    "order ",
+    "cuts ",
+    "strips ",
+    "versions ",
+];
 
 // The bytes of a case's head: the answer, the record's length in bytes and the lengths
 // in samples of the slices that are read, filled and for work. The record follows,
 // then the samples that are read, and where the answer is 0 those that are expected.
 const HEAD: usize = 20;
-
-// Samples before and after a lent slice that is written.
-const GUARD: usize = 16;
 
 // Room for a case's bytes, and for the samples of a slice with its guards.
 const CASE: usize = 1_048_576;
@@ -78,46 +89,38 @@ struct Rooms {
     work: [i32; ROOM],
 }
 
-// An array of this size has a function of its own: a proof that meets the zeros
-// themselves counts them one by one.
-fn case_room() -> [u8; CASE] {
-    [0; CASE]
-}
-
-fn sample_room() -> [i32; ROOM] {
-    [0; ROOM]
-}
-
 impl Rooms {
     fn empty() -> Rooms {
         Rooms {
-            source: sample_room(),
-            filled: sample_room(),
-            work: sample_room(),
+            source: zeros(),
+            filled: zeros(),
+            work: zeros(),
         }
     }
+}
+
+// How far a lent slice of n samples with its guards reaches.
+fn reach(n: u32) -> usize {
+    GUARD + n as usize + GUARD
 }
 
 // Marks a room as far as a lent slice with its guards reaches, and lends the slice; none
 // where it has no room.
 fn lend(room: &mut [i32; ROOM], n: u32) -> Option<&mut [i32]> {
-    let to = GUARD + n as usize;
-    fill(room.get_mut(..to + GUARD)?);
-    room.get_mut(GUARD..to)
+    fill(room.get_mut(..reach(n))?);
+    room.get_mut(GUARD..GUARD + n as usize)
 }
 
 // Whether a room holds these samples where a slice was lent, zeros past their end, and
 // nothing was written around it.
-fn holds(room: &[i32; ROOM], n: u32, samples: &[u8]) -> bool {
-    let to = GUARD + n as usize;
-    room.get(GUARD..to).is_some_and(|lent| {
-        kept(room, 0, GUARD) & same(samples, lent) & kept(room, to, to + GUARD)
-    })
+fn lent_holds(room: &[i32; ROOM], n: u32, samples: &[u8]) -> bool {
+    room.get(..reach(n))
+        .is_some_and(|marked| holds(marked, n, samples))
 }
 
 // Whether nothing was written in a room, as far as a lent slice with its guards reaches.
 fn untouched(room: &[i32; ROOM], n: u32) -> bool {
-    kept(room, 0, GUARD + n as usize + GUARD)
+    kept(room, 0, reach(n))
 }
 
 // A case one way: the answer that the call must give, a number as the file has it, the
@@ -150,8 +153,8 @@ impl<'a> Run<'a> {
         let work = lend(&mut rooms.work, lengths.work)?;
         let answered = answer_of(call(self.record, source, filled, work));
         let left = if answer == 0 {
-            holds(&rooms.filled, lengths.filled, self.wanted)
-                & holds(&rooms.work, lengths.work, b"")
+            lent_holds(&rooms.filled, lengths.filled, self.wanted)
+                & lent_holds(&rooms.work, lengths.work, b"")
         } else {
             untouched(&rooms.filled, lengths.filled) & untouched(&rooms.work, lengths.work)
         };
@@ -215,7 +218,7 @@ fn agrees(case: &[u8], rooms: &mut Rooms) -> Option<bool> {
 
 // Replays the cases of the next kind and says how many are right.
 fn kind<R: Read>(rt: &impl Print, input: &mut R, name: &str) -> io::Result<()> {
-    let mut space = case_room();
+    let mut space = zeros::<u8, CASE>();
     let mut rooms = Rooms::empty();
     let tally = replay::count(input, &mut space, |case| {
         agrees(case, &mut rooms) == Some(true)
@@ -225,15 +228,8 @@ fn kind<R: Read>(rt: &impl Print, input: &mut R, name: &str) -> io::Result<()> {
 
 fn main(rt: HostRuntime) -> io::Result<()> {
     let mut input = rt.reader();
-    kind(&rt, &mut input, "vectors ")?;
-    kind(&rt, &mut input, "sizes ")?;
-    kind(&rt, &mut input, "plans ")?;
-    kind(&rt, &mut input, "metas ")?;
-    kind(&rt, &mut input, "limits ")?;
-    kind(&rt, &mut input, "refusals ")?;
-    kind(&rt, &mut input, "order ")?;
-    kind(&rt, &mut input, "cuts ")?;
-    kind(&rt, &mut input, "strips ")?;
-    kind(&rt, &mut input, "versions ")?;
+    for name in KINDS {
+        kind(&rt, &mut input, name)?;
+    }
     Ok(())
 }

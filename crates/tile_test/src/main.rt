@@ -8,7 +8,7 @@
 ghost use Rattle.std.specs.Prelude.{◌<◌, ◌≤◌};
 
 use numbers::answer_of;
-use samples::{decode, fill, kept, same, word_at};
+use samples::{GUARD, decode, fill, holds, kept, word_at};
 use std::io;
 use std::io::Read;
 use tile::Sides;
@@ -22,8 +22,19 @@ const CASE: usize = 8192;
 
 const ROOM: usize = 1024;
 
-// Samples before and after the lent output, at least.
-const GUARD: usize = 16;
+// The kinds of cases, in the order of `stdin`.
+const KINDS: [&str; 10] = [
+    "published ",
+    "table ",
+    "sizes ",
+    "ends ",
+    "limits ",
+    "areas ",
+    "misfits ",
+    "lengths ",
+    "order ",
+    "cuts ",
+];
 
 // The head of a case, in this order: numbers of four bytes each, sides of eight. The
 // answer is the number that the file has, 0 where the tile is accepted.
@@ -78,18 +89,15 @@ impl Head {
         )))
     }
 
-    // Whether the room holds the wanted output up to `to`, after a refusal none and what
-    // stood there, and nothing was written around it.
-    fn left_right(&self, wanted: &[u8], room: &[i32], to: usize) -> bool {
-        if self.answer != 0 {
-            return wanted.is_empty() & kept(room, 0, room.len());
+    // Whether the room holds the wanted output, after a refusal none and what stood there,
+    // and nothing was written around it.
+    fn left_right(&self, wanted: &[u8], room: &[i32]) -> bool {
+        let n = self.lengths[4];
+        if self.answer == 0 {
+            (wanted.len() == 4 * n as usize) & holds(room, n, wanted)
+        } else {
+            wanted.is_empty() & kept(room, 0, room.len())
         }
-        room.get(GUARD..to).is_some_and(|out| {
-            (wanted.len() == 4 * out.len())
-                & kept(room, 0, GUARD)
-                & same(wanted, out)
-                & kept(room, to, room.len())
-        })
     }
 }
 
@@ -126,7 +134,7 @@ fn agrees(case: &[u8], slices: &mut [i32], room: &mut [i32]) -> Option<bool> {
     decode(given, slices);
     fill(room);
     let answer = head.call(slices, &mut room[GUARD..to])?;
-    Some((answer == head.answer) & head.left_right(wanted, room, to))
+    Some((answer == head.answer) & head.left_right(wanted, room))
 }
 
 // Replays the cases of the next kind and says how many are right.
@@ -142,15 +150,8 @@ fn kind<R: Read>(rt: &impl Print, input: &mut R, name: &str) -> io::Result<()> {
 
 fn main(rt: HostRuntime) -> io::Result<()> {
     let mut input = rt.reader();
-    kind(&rt, &mut input, "published ")?;
-    kind(&rt, &mut input, "table ")?;
-    kind(&rt, &mut input, "sizes ")?;
-    kind(&rt, &mut input, "ends ")?;
-    kind(&rt, &mut input, "limits ")?;
-    kind(&rt, &mut input, "areas ")?;
-    kind(&rt, &mut input, "misfits ")?;
-    kind(&rt, &mut input, "lengths ")?;
-    kind(&rt, &mut input, "order ")?;
-    kind(&rt, &mut input, "cuts ")?;
+    for name in KINDS {
+        kind(&rt, &mut input, name)?;
+    }
     Ok(())
 }
