@@ -31,7 +31,7 @@ count 'a stretch with its first pair, rows'    'fn (squeeze_stretch|first_stretc
 count 'samples copied from slice to slice'     'fn (fetch|move_part|copy_row|copy)\('
 count 'a test that runs its cases'             'fn (replay|replay_in|kind|agrees)(<|\()'
 echo "3. loops"
-count 'a while that counts'                    '^ *while [a-z0-9_ <>=+().&|-]* \{$'
+count 'a while that counts'                    '^ *while [a-z0-9_ <>=+().&|!-]* \{$'
 count 'a for over indices'                     '^ *for [a-z_]+ in [^{]*\.\.'
 echo "4. by hand"
 count 'equality'                               'fn (same_list|same_steps|is_at|same|holds)\('
