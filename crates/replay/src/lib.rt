@@ -4,7 +4,9 @@
 #![tactic(auto)]
 
 ghost use Rattle.replay.specs.Taken.{TakesWord, TakesCase};
-ghost use Rattle.std.specs.Prelude.{◌≡◌, ◌<◌, ◌≤◌, ◌/◌, length, IfOk, IfSome};
+ghost use Rattle.replay.specs.Cases.{cases_of};
+ghost use Rattle.std.specs.Fn.{FnReturnsAt};
+ghost use Rattle.std.specs.Prelude.{◌≡◌, ℕ, ◌<◌, ◌≤◌, ◌/◌, Bool, List, length, count_by, IfOk, IfSome};
 
 use std::io;
 use std::io::Read;
@@ -82,6 +84,7 @@ pub fn count_in<F: Fn(&[u8]) -> bool>(bytes: &[u8], size: usize, agrees: F) -> T
     requires callable { F.IsAlwaysCallable agrees }
     ensures cases { result.cases ≡ length bytes.now / size }
     ensures right { result.right ≤ result.cases }
+    ensures told { (test : List ℕ → Bool) → ((case : List ℕ) (b : Bool) → FnReturnsAt F.Fn agrees case b → b ≡ test case) → result.right ≡ count_by test (cases_of size bytes.now) }
 {
     let cases = bytes.chunks_exact(size);
     Tally {
