@@ -8,7 +8,7 @@ use native.Mathlib.Omega.{arith}
 use native.Mathlib.Numerals.{add-one}
 use lib.ListN.{length, get_or, take, drop}
 use Rattle.std.specs.List.{list_all, range_with_len}
-use Rattle.list.specs.Tables.{table, all}
+use Rattle.list.specs.Tables.{table, map, all}
 
 module _ {ℓ} {A : Type ℓ} (f : ℕ → A) where
   pub table_length : (k n : ℕ) → length (table f k n) ≡ n
@@ -53,6 +53,11 @@ module _ {ℓ} {A : Type ℓ} (f : ℕ → A) where
 pub table_same {ℓ} : {A : Type ℓ} (f g : ℕ → A) (k n : ℕ) → ((j : ℕ) → k ≤ j → j < k + n → f j ≡ g j) → table f k n ≡ table g k n
 table_same f g k zero h = refl
 table_same f g k (suc n) h = rw (h k (omega arith) (omega arith), table_same f g (suc k) n (λ j m l. h j (omega arith) (omega arith)))
+
+-- a table under a function
+pub map_table {ℓ κ} : {A : Type ℓ} {B : Type κ} (g : A → B) (f : ℕ → A) (k n : ℕ) → map g (table f k n) ≡ table (λ j. g (f j)) k n
+map_table g f k zero = refl
+map_table g f k (suc n) = ap (λ l. g (f k) ∷ l) (map_table g f (suc k) n)
 
 -- a test of every entry from k on, where v and the test's answer b were found at k
 module _ {ℓ} {A : Type ℓ} (f : ℕ → A) (p : A → Bool) (k n : ℕ) (v : A) (b : Bool) (h : k < n) (ev : v ≡ f k) (eb : b ≡ p v) where

@@ -16,16 +16,12 @@ use Rattle.numbered.specs.Numbered.{channel_numbers, step_numbers, groups, chann
 use Rattle.numbered.specs.Arrays.{list_of, plan_by, step_by}
 use Rattle.numbered.proofs.Fields.{entry_at, channels_count, flags_small}
 use Rattle.plan.specs.Steps.{flags_allowed}
-use Rattle.list.proofs.Tables.{table_length, table_same}
+use Rattle.list.proofs.Tables.{table_length, table_same, map_table}
 use Rattle.record.proofs.Flags.{flags_read}
 
 -- the step with its first channel and its number put through f
 abbrev pub over : (ℕ → ℕ) → Step → Step
 over f s = record { horizontal = s.horizontal; inplace = s.inplace; begin = f s.begin; number = f s.number }
-
-pub map_table {ℓ κ} : {A : Type ℓ} {B : Type κ} (h : A → B) (f : ℕ → A) (k n : ℕ) → map h (table f k n) ≡ table (λ j. h (f j)) k n
-map_table h f k zero = refl
-map_table h f k (suc n) = ap (◌∷◌ (h (f k))) (map_table h f (suc k) n)
 
 -- ---- the list
 module _ (ns : List ℕ) where

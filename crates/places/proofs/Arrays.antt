@@ -4,22 +4,18 @@ use mathlib.Core.List.{List, [], ◌∷◌, ◌++◌}
 use Prim.Native.Nat.{ℕ, zero, suc, ◌+◌, ◌<◌}
 use native.Mathlib.Omega.{arith}
 use lib.ListN.{length}
-use Rattle.list.specs.Tables.{table, map}
+use Rattle.list.specs.Tables.{table}
 use Rattle.list.proofs.Tables.{table_length, table_at}
 use Rattle.places.specs.declared.Places.{Places}
 use Rattle.places.specs.Places.{behind, starts_from, place_at, places_in, place_of}
 
--- ---- tables: one after the other, and under a function
+-- ---- tables, one after the other
 pub table_join {ℓ} : {A : Type ℓ} (f : ℕ → A) (a k m : ℕ) → table f a (k + m) ≡ table f a k ++ table f (a + k) m
 table_join f a zero m = let e : 0 + m ≡ m = omega arith in let z : a + 0 ≡ a = omega arith in rw (e, z)
 table_join f a (suc k) m =
     let e : suc k + m ≡ suc (k + m) = omega arith in
     let z : a + suc k ≡ suc a + k = omega arith in
     rw (e, z) (ap (λ l. f a ∷ l) (table_join f (suc a) k m))
-
-pub map_table {ℓ κ} : {A : Type ℓ} {B : Type κ} (g : A → B) (f : ℕ → A) (k n : ℕ) → map g (table f k n) ≡ table (λ j. g (f j)) k n
-map_table g f k zero = refl
-map_table g f k (suc n) = ap (λ l. g (f k) ∷ l) (map_table g f (suc k) n)
 
 -- ---- starts
 pub starts_length : (at : ℕ) (ns : List ℕ) → length (starts_from at ns) ≡ length ns

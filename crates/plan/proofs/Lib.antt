@@ -2,7 +2,6 @@ pub mod Turns
 pub mod Length
 pub mod Appended
 pub mod Packed
-pub mod Counts
 pub mod Leading
 pub mod Coarse
 pub mod Parts

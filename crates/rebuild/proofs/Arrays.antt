@@ -15,7 +15,8 @@ use Rattle.plan.specs.Steps.{step_at}
 use Rattle.places.specs.declared.Place.{Place}
 use Rattle.places.specs.declared.Places.{Places}
 use Rattle.places.specs.Places.{area, unmade, behind, place_at, places_in, places_from, areas_in, step_fits, places_after, place_of}
-use Rattle.places.proofs.Arrays.{map_table, places_length}
+use Rattle.list.proofs.Tables.{map_table}
+use Rattle.places.proofs.Arrays.{places_length}
 use Rattle.rebuild.specs.Run.{places_all, first_steps}
 use Rattle.rebuild.proofs.Firsts.{places_next}
 

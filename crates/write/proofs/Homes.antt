@@ -11,13 +11,13 @@ use Rattle.channel.specs.Channel.{sides_fit}
 use Rattle.list.specs.declared.Step.{Step}
 use Rattle.list.specs.Tables.{table, padded, map}
 use Rattle.list.specs.Lists.{max_channels}
-use Rattle.list.proofs.Tables.{table_length, table_at, table_first, table_same}
+use Rattle.list.proofs.Tables.{table_length, table_at, table_first, table_same, map_table}
 use Rattle.places.specs.declared.Place.{Place}
 use Rattle.places.specs.declared.Places.{Places}
 use Rattle.places.specs.Places as Specs
 use Rattle.places.specs.Places.{area, bare, starts_from, sum, place_of, place_at, places_in, areas_in, step_places, places_after}
 use Rattle.places.specs.Laid.{Laid}
-use Rattle.places.proofs.Arrays.{map_table, places_length, places_at}
+use Rattle.places.proofs.Arrays.{places_length, places_at}
 use Rattle.places.proofs.Laid.{starts_at}
 use Rattle.runs.specs.Parts.{joined}
 use Rattle.write.specs.Standing.{lying, held, Ranged, Fitting, Squeezed, Full}
