@@ -8,3 +8,4 @@ pub mod Wrong
 pub mod Signs
 pub mod Chosen
 pub mod Stretches
+pub mod Puts

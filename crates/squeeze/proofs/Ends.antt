@@ -44,21 +44,24 @@ worked version l s p q w = cond (eqb (asked version l s p q w) 0) (zeros w) w
 abbrev filled_of : (List Step → List Channel → List ℤ → List ℤ) → List ℕ → List ℤ → List ℤ → List ℤ → List ℤ
 filled_of run bytes p q w = cond (eqb (answer bytes p q w) 0) (run (steps_of bytes) (channels_of bytes) p) q
 
+-- ---- a record that is refused: a is its answer
+module _ (bytes : List ℕ) (a : ℕ) (e : a ≡ read_answer bytes) (h : a ≡ 0 → ⊥) (p q w : List ℤ) where
+  refused_answer : a ≡ answer bytes p q w
+  unfolding answer
+  refused_answer = rw (← e, ne_eqb a 0 h)
+
 module _ (run : List Step → List Channel → List ℤ → List ℤ) (bytes : List ℕ) (p q w : List ℤ) where
   abbrev Ended : ℕ → List ℤ → List ℤ → Type 0
   Ended a q' w' = (a ≡ answer bytes p q w) × (q' ≡ filled_of run bytes p q w) × (w' ≡ work_of bytes p q w)
 
   -- a record that is refused: a is its answer
   module _ (a : ℕ) (e : a ≡ read_answer bytes) (h : a ≡ 0 → ⊥) where
-    kept_answer : a ≡ answer bytes p q w
-    unfolding answer
-    kept_answer = rw (← e, ne_eqb a 0 h)
-
     kept : Ended a q w
     unfolding work_of
     kept =
-        let z : eqb (answer bytes p q w) 0 ≡ false = rw (← kept_answer) (ne_eqb a 0 h) in
-        (kept_answer, rw z, rw z)
+        let r = refused_answer bytes a e h p q w in
+        let z : eqb (answer bytes p q w) 0 ≡ false = rw (← r) (ne_eqb a 0 h) in
+        (r, rw z, rw z)
 
   -- a record that is accepted: f is what `read_record` gives
   same : (f : Record) → f ≡ read_of bytes → f.answer ≡ 0 → asked f.version f.list f.steps p q w ≡ answer bytes p q w
