@@ -6,9 +6,9 @@
 
 mod lanes;
 
-ghost use Rattle.std.specs.Prelude.{◌≡◌, true, cond, List, [], ◌⊎◌, ℕ, ◌+◌, ◌-◌, ◌*◌, ◌<◌, ◌≤◌, ltb, ℤ, pos, length, get_or};
+ghost use Rattle.std.specs.Prelude.{◌≡◌, true, cond, List, ◌⊎◌, ℕ, ◌+◌, ◌-◌, ◌*◌, ◌<◌, ◌≤◌, ltb, ℤ, pos, length, get_or};
 ghost use Rattle.line.specs.Line.{or_else};
-ghost use Rattle.line.specs.Uncut.{squeeze, uncut, Fitting, outer};
+ghost use Rattle.line.specs.Uncut.{uncut, Fitting, outer};
 ghost use Rattle.line.specs.Pairs.{lines_of, inner, Ordinary, Ended};
 ghost use Rattle.line.specs.Into.{uncut_into};
 ghost use Rattle.line.specs.Squeezed.{squeeze_of};
@@ -27,20 +27,6 @@ fn outer_lanes(line: &[i32], other: [i32; 8]) -> [i32; 8]
     } else {
         load_lanes(line, 0, 1)
     }
-}
-
-// Eight samples of each of eight rows of n, from position `at` on, row after row.
-// Not `array::from_fn` over the 64 places: 64 rows of 64 samples take 63,262
-// instructions with it, in place of 48,743.
-fn part_of(s: &[i32], at: usize, n: usize) -> [i32; 64]
-    requires { (at + 8 ≤ n) × (length s.now ≡ 8 * n) }
-    ensures { (j : ℕ) → j < 8 → lanes_at result j 8 ≡ lanes_at s.now (at + j) n }
-{
-    let mut part = [0i32; 64];
-    for k in 0..8 {
-        store_lanes(&mut part, 8 * k, 1, load_lanes(s, at + k * n, 1));
-    }
-    part
 }
 
 // Eight rows, their averages and residuals as long as they have to be.
@@ -66,6 +52,21 @@ impl EightRows<'_> {
         ensures { result ≡ lanes_at self.now.squeezed.res.now i self.now.squeezed.residuals }
     {
         load_lanes(self.squeezed.res, i, self.squeezed.residuals)
+    }
+
+    // Residuals `at` to at + 7 of each row, row after row. Not `array::from_fn` over
+    // the 64 places: 64 rows of 64 samples take 63,262 instructions with it, in place
+    // of 48,743.
+    fn part(&self, at: usize) -> [i32; 64]
+        requires { at + 8 ≤ self.now.squeezed.residuals }
+        ensures { (j : ℕ) → j < 8 → lanes_at result j 8 ≡ lanes_at self.now.squeezed.res.now (at + j) self.now.squeezed.residuals }
+    {
+        let mut part = [0i32; 64];
+        for k in 0..8 {
+            let row = load_lanes(self.squeezed.res, at + k * self.squeezed.residuals, 1);
+            store_lanes(&mut part, 8 * k, 1, row);
+        }
+        part
     }
 
     // The next averages of the last pair, whose own averages are given.
@@ -125,7 +126,7 @@ impl EightRows<'_> {
         requires { (length out.old ≡ 8 * (self.now.squeezed.averages + self.now.squeezed.residuals)) × (i + 8 < self.now.squeezed.averages) × (i + 8 ≤ self.now.squeezed.residuals) }
         ensures { Ordinary (inner (squeeze_of true 8 self.now.squeezed)) (lane prior) (lane result) out.old out.new i 8 }
     {
-        let part = part_of(self.squeezed.res, i, self.squeezed.residuals);
+        let part = self.part(i);
         let mut before = prior;
         for j in 0..2 {
             // Named first: a call's array is not laid into one that a loop carries.

@@ -14,4 +14,4 @@ loop-j-preserved c =
     rw e
     (join s.low (omega arith) c.loop-j.invariant
     (c.four_pairs-last.ensures s.squeezed.res.now
-    (λ k hk. let z : a.i + (4 * j + k) ≡ a.i + 4 * j + k = omega arith in c.part_of-part.ensures (4 * j + k) (omega arith) ∙ rw z)))
+    (λ k hk. let z : a.i + (4 * j + k) ≡ a.i + 4 * j + k = omega arith in c.part-part.ensures (4 * j + k) (omega arith) ∙ rw z)))
