@@ -151,7 +151,9 @@ pub fn record_of_numbers(
     ensures { (answer_of result ≡ Spec.answer version channels.now steps.now «record».old length.old) × («record».new ≡ Spec.record_after version channels.now steps.now «record».old length.old) × (length.new ≡ Spec.length_after version channels.now steps.now «record».old length.old) }
 {
     let form = form_of(version, channels, steps)?;
-    let whole = (channels.len() % CHANNEL_NUMBERS == 0) & (steps.len() % STEP_NUMBERS == 0);
+    let (_, channels_left) = channels.as_chunks::<CHANNEL_NUMBERS>();
+    let (_, steps_left) = steps.as_chunks::<STEP_NUMBERS>();
+    let whole = channels_left.is_empty() & steps_left.is_empty();
     if !(whole & (1 <= length.len())) {
         return Err(Refusal::Length);
     }
