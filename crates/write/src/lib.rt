@@ -28,6 +28,7 @@ use plan::{Form, Steps};
 
 // The channel at a place of one slice as averages and residuals at the same home
 // of another.
+#[tactic(auto, using(crate::proofs::Putting::channel_put))]
 fn squeeze_channel(place: Place, horizontal: bool, from: &[i32], to: &mut [i32])
     requires { (place.home + area place ≤ length from.now) × (place.home + area place ≤ length to.old) × (sides_fit (bare place) ≡ true) }
     ensures { to.new ≡ written place.home (halves horizontal (bare place) (part place.home (area place) from.now)) to.old }
@@ -91,6 +92,7 @@ fn squeeze_steps(
 }
 
 // The samples at a place of one slice to `start` of another.
+#[tactic(auto, using(crate::proofs::Putting::copy_put))]
 fn move_channel(place: Place, from: &[i32], to: &mut [i32], start: usize)
     requires { (place.home + area place ≤ length from.now) × (start + area place ≤ length to.old) }
     ensures { to.new ≡ written start (part place.home (area place) from.now) to.old }
@@ -101,6 +103,7 @@ fn move_channel(place: Place, from: &[i32], to: &mut [i32], start: usize)
 
 // A channel that stands in the pyramid, but not at its start, to its home in the
 // work slice.
+#[tactic(auto, using(crate::proofs::Moving::moved, crate::proofs::Moving::unmoved, crate::proofs::Moving::odd_tested))]
 fn clear_place(place: Place, start: usize, pyramid: &[i32], work: &mut [i32])
     requires { (length work.old ≡ length pyramid.now) × (place.home + area place ≤ length pyramid.now) }
     ensures { Moved start place pyramid.now work.old work.new }
@@ -124,6 +127,7 @@ fn clear_way(places: &Places, starts: &[usize; 256], pyramid: &[i32], work: &mut
 
 // A channel to its start in the pyramid: from the picture if no step has made it,
 // else from the work slice, unless it stands there already.
+#[tactic(auto, using(crate::proofs::Settling::from_picture, crate::proofs::Settling::from_work, crate::proofs::Settling::from_even, crate::proofs::Settling::in_pyramid, crate::proofs::Settling::part_again))]
 fn settle_place(place: Place, start: usize, picture: &[i32], work: &[i32], pyramid: &mut [i32])
     requires { (place.home + area place ≤ length picture.now) × (place.home + area place ≤ length work.now) × (start + area place ≤ length pyramid.old) }
     ensures { pyramid.new ≡ written start (settling picture.now pyramid.old work.now start place) pyramid.old }
