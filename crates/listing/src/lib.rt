@@ -110,6 +110,8 @@ fn put_channel(c: Channel, page: &mut Page)
     page.push_str("\n");
 }
 
+// Not one function with `put_channels` over a closure: a channel's line asks for sides
+// that fit and a step's for nothing, which the closure would have to say of each index.
 fn put_steps(steps: &Steps, page: &mut Page)
     requires { Fits page.old.bytes (Text.step_lines (StepsSpec.steps steps.now)) }
     ensures { page.new.bytes ≡ page.old.bytes ++ Text.step_lines (StepsSpec.steps steps.now) }
