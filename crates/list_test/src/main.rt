@@ -93,7 +93,7 @@ fn form_of(bytes: &[u8]) -> Form {
 
 // Whether what was found has the answer of the file, 0 or a refusal's number, and a value
 // that `is_right` takes; after a refusal it has none.
-fn agrees<T, F: FnOnce(Option<T>) -> bool>(
+fn found_right<T, F: FnOnce(Option<T>) -> bool>(
     found: Result<T, Refusal>,
     answer: usize,
     is_right: F,
@@ -109,7 +109,7 @@ fn agrees<T, F: FnOnce(Option<T>) -> bool>(
 
 // Whether it is the list that the bytes begin with, or a refusal.
 fn is_list(found: Result<ChannelList, Refusal>, answer: usize, bytes: &[u8]) -> bool {
-    agrees(
+    found_right(
         found,
         answer,
         |list| list.is_none_or(|list| list == list_of(bytes)),
@@ -118,7 +118,7 @@ fn is_list(found: Result<ChannelList, Refusal>, answer: usize, bytes: &[u8]) -> 
 
 // The same of a plan; a refusal has no step.
 fn are_steps(found: Result<Steps, Refusal>, answer: usize, bytes: &[u8]) -> bool {
-    agrees(
+    found_right(
         found,
         answer,
         |steps| steps.unwrap_or(Steps::empty()) == steps_of(bytes),
@@ -135,7 +135,7 @@ fn step_agrees(bytes: &[u8]) -> bool {
         number: narrow_at(rest, 12).unwrap_or(0),
     };
     let answer = number_at(rest, 16);
-    let checked = agrees(list.check_squeeze_params(step), answer, |_| true);
+    let checked = found_right(list.check_squeeze_params(step), answer, |_| true);
     checked & is_list(list.step(step), answer, from(rest, 20))
 }
 
@@ -163,7 +163,7 @@ fn coarse_agrees(bytes: &[u8]) -> bool {
     let rest = after(list);
     let count = number_at(rest, 4);
     let coarse = plan::coarse_count(word_at(bytes, 0), &list_of(list));
-    agrees(
+    found_right(
         coarse,
         number_at(rest, 0),
         |coarse| coarse.unwrap_or(0) == count,
