@@ -19,12 +19,6 @@ use Rattle.runs.specs.Runs.{channel_back, all_back_by, behind, residual_parts, o
 use Rattle.runs.proofs.Shapes.{Shaped}
 
 -- ---- parts with the lengths of a list's channels
-pub shaped_by : (cs : List Channel) (ps : List (List ℤ)) → length ps ≡ length cs → ((k : ℕ) → k < length cs → length (get_or ps k []) ≡ samples (channel_of cs k)) → Shaped cs ps
-shaped_by [] [] e f = tt
-shaped_by [] (p ∷ ps) e f = absurd (omega arith)
-shaped_by (c ∷ cs) [] e f = absurd (omega arith)
-shaped_by (c ∷ cs) (p ∷ ps) e f = (f 0 (omega arith), shaped_by cs ps (omega arith) (λ k h. f (suc k) (omega arith)))
-
 pub shaped_at : (cs : List Channel) (ps : List (List ℤ)) → Shaped cs ps → (k : ℕ) → k < length cs → length (get_or ps k []) ≡ samples (channel_of cs k)
 shaped_at [] ps h k l = absurd (omega arith)
 shaped_at (c ∷ cs) [] h k l = absurd h

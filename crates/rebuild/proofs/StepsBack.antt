@@ -28,12 +28,12 @@ use Rattle.plan.specs.declared.Steps.{Steps}
 use Rattle.plan.specs.Steps.{step_at}
 use Rattle.runs.specs.Parts.{parts}
 use Rattle.runs.specs.Runs.{channel_back, back_parts, step_back, rebuilt}
-use Rattle.runs.proofs.Shapes.{Shaped, parts_joined, joined_length}
+use Rattle.runs.proofs.Shapes.{Shaped, parts_joined, joined_length, shaped_by}
 use Rattle.rebuild.specs.declared.Source.TheVariants.{Home}
 use Rattle.rebuild.specs.declared.Sources.{Sources}
 use Rattle.rebuild.specs.Run.{slice_of, start_of, made_of, lying_in, source_at, start_at, made_at, held, step_count, RangeFits, TakenBack, list_at, places_at, samples_at, RunFits, Back}
 use Rattle.rebuild.proofs.Lent.{source_length, slice_length}
-use Rattle.rebuild.proofs.Backs.{shaped_by, back_count, back_before, back_range, back_behind}
+use Rattle.rebuild.proofs.Backs.{back_count, back_before, back_range, back_behind}
 use Rattle.rebuild.proofs.Firsts.{list_more, places_more, step_judged, step_ok, list_ok, list_total, total_few, places_sided, places_laid, step_inside}
 
 pub parts_count : (cs : List Channel) (xs : List ℤ) → length (parts cs xs) ≡ length cs

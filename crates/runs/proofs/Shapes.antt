@@ -2,10 +2,10 @@
 -- total are the same thing, and 32-bit samples stay so. Assumes nothing.
 use mathlib.Core.Path.{◌≡◌, refl, sym, ap}
 use mathlib.Core.List.{List, [], ◌∷◌, ◌++◌, append_assoc}
-use Prim.Native.Nat.{suc}
+use Prim.Native.Nat.{ℕ, suc, ◌<◌}
 use native.Mathlib.Omega.{arith}
 use lib.IntN.{ℤ, pos}
-use lib.ListN.{length, take, drop, length-append, length-drop, take-append-drop}
+use lib.ListN.{length, get_or, take, drop, length-append, length-drop, take-append-drop}
 use lib.Seq.{take_at, drop_at, length-take-le}
 use Rattle.std.specs.List.{All, AllZip}
 use Rattle.std.proofs.lemmas.List.Elements.{All-nil, All-cons, All-head, All-tail, All-from_get_or, All-append, All-take, All-drop}
@@ -13,6 +13,7 @@ use Rattle.arith32.specs.Arith.{Sample}
 use Rattle.channel.specs.declared.Channel.{Channel}
 use Rattle.channel.specs.Channel.{samples}
 use Rattle.list.specs.Lists.{total}
+use Rattle.list.specs.Questions.{channel_of}
 use Rattle.line.specs.Forward.{Samples}
 use Rattle.runs.specs.Parts.{parts, joined}
 
@@ -29,6 +30,12 @@ shaped_length [] [] h = refl
 shaped_length [] (p ∷ ps) h = absurd h
 shaped_length (c ∷ cs) [] h = absurd h
 shaped_length (c ∷ cs) (p ∷ ps) h = ap suc (shaped_length cs ps h.1)
+
+pub shaped_by : (cs : List Channel) (ps : List (List ℤ)) → length ps ≡ length cs → ((k : ℕ) → k < length cs → length (get_or ps k []) ≡ samples (channel_of cs k)) → Shaped cs ps
+shaped_by [] [] e f = tt
+shaped_by [] (p ∷ ps) e f = absurd (omega arith)
+shaped_by (c ∷ cs) [] e f = absurd (omega arith)
+shaped_by (c ∷ cs) (p ∷ ps) e f = (f 0 (omega arith), shaped_by cs ps (omega arith) (λ k h. f (suc k) (omega arith)))
 
 pub joined_length : (cs : List Channel) (ps : List (List ℤ)) → Shaped cs ps → length (joined ps) ≡ total cs
 joined_length [] [] h = refl

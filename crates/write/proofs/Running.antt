@@ -2,14 +2,13 @@
 -- hold and the steps that are left give the whole run. Assumes nothing.
 use mathlib.Core.Path.{◌≡◌, sym, ap, ◌∙◌}
 use mathlib.Core.List.{List, [], ◌∷◌}
-use Prim.Native.Nat.{ℕ, suc, ◌+◌, ◌-◌, ◌<◌, ◌≤◌, min}
+use Prim.Native.Nat.{ℕ, ◌+◌, ◌-◌, ◌<◌, ◌≤◌, min}
 use native.Mathlib.Omega.{arith}
 use borrow.Author.Tests.{leb-true}
 use lib.IntN.{ℤ}
-use lib.ListN.{length, get_or}
+use lib.ListN.{length}
 use Rattle.numbers.specs.Numbers.{max_samples}
 use Rattle.channel.specs.declared.Channel.{Channel}
-use Rattle.channel.specs.Channel.{samples}
 use Rattle.list.specs.declared.Step.{Step}
 use Rattle.list.specs.Tables.{table}
 use Rattle.list.specs.Lists.{max_channels, max_steps, stepped, total}
@@ -37,19 +36,12 @@ use Rattle.plan.proofs.Runs.{none_refused}
 use Rattle.runs.specs.Parts.{joined}
 use Rattle.runs.specs.Runs as Runs
 use Rattle.runs.specs.Runs.{step_forward, squeezed}
-use Rattle.runs.proofs.Shapes.{Shaped, parts_joined}
+use Rattle.runs.proofs.Shapes.{Shaped, parts_joined, shaped_by}
 use Rattle.write.specs.Standing as Standing
 use Rattle.write.specs.Standing.{Alike, slice_of, lying, held, Squeezed}
 use Rattle.write.proofs.Stepping.{held_step_lem}
 
 -- ---- what the places hold has the shape of the list
-shaped_by : (cs : List Channel) (hs : List (List ℤ)) → length hs ≡ length cs → ((k : ℕ) → k < length cs → length (get_or hs k []) ≡ samples (channel_of cs k))
-    → Shaped cs hs
-shaped_by [] [] l e = tt
-shaped_by [] (x ∷ hs) l e = absurd (omega arith)
-shaped_by (c ∷ cs) [] l e = absurd (omega arith)
-shaped_by (c ∷ cs) (x ∷ hs) l e = (e 0 (omega arith), shaped_by cs hs (omega arith) (λ k h. e (suc k) (omega arith)))
-
 module _ (picture odds evens : List ℤ) (alike : Alike picture odds evens) where
   lying_length : (p : Place) → p.home + area p ≤ length picture → length (lying picture odds evens p) ≡ area p
   unfolding Standing.lying
