@@ -217,10 +217,7 @@ impl ChannelList {
     fn origin(&self, k: usize) -> u8
         ensures { result ≡ get_or self.now.origins k 0 }
     {
-        if ChannelList::MAX_CHANNELS <= k {
-            return 0;
-        }
-        self.origins[k]
+        self.origins.get(k).copied().unwrap_or(0)
     }
 
     // How many channels are meant.
