@@ -16,8 +16,9 @@ use Rattle.line.specs.Pairs.{inner, Ended}
 use Rattle.line.proofs.Places.{row_room}
 use Rattle.line.proofs.Lines.{lt_or_ge, next_inside, next_last}
 use Rattle.line.proofs.Pairs.{OnePair, ended_pair, ended_tail}
+use Rattle.line.proofs.Outputs.{part_length}
 use Rattle.columns.specs.Rows.{row_after, Apart, Columns}
-use Rattle.columns.proofs.OuterRows.{part_length, after_length, after_inside, after_last}
+use Rattle.columns.proofs.OuterRows.{after_length, after_inside, after_last}
 use Rattle.columns.proofs.Pastes.{pasted, pasted_length, pasted_in, pasted_below}
 use Rattle.columns.proofs.RowPairs.{one_pair}
 
@@ -72,8 +73,8 @@ module _ {w m n : ℕ} {avg res next : List ℤ} (fitting : Fitting (squeeze fal
         let e = row_at in
         let q : a + a ≡ (i + i) * w = omega arith in
         let r = residuals_inside in
-        let l = part_length avg a w (omega arith) in (
-          part_length res a w (omega arith) ∙ sym l,
+        let l = part_length a w avg (omega arith) in (
+          part_length a w res (omega arith) ∙ sym l,
           after_length avg next a w ∙ sym l,
           rw (l, q) p,
         )

@@ -6,29 +6,23 @@ use native.Mathlib.Omega.{arith}
 use borrow.Author.Tests.{lt-ltb, le-ltb}
 use lib.IntN.{ℤ, pos}
 use lib.ListN.{length, get_or, take, drop, length-drop}
-use lib.Seq.{get_or-take, get_or-drop, length-take-le, take_all}
+use lib.Seq.{take_all}
 use Rattle.line.specs.Line.{or_else}
 use Rattle.line.specs.Uncut.{outer, table}
 use Rattle.columns.specs.Rows.{row_before, row_after}
 use Rattle.line.proofs.Outers.{outer_none, outer_some}
+use Rattle.line.proofs.Outputs.{part_length, part_at}
 use Rattle.line.proofs.Tables.{is_table, table_at, table_length}
 
--- ---- w samples from `at` on
-pub part_length : (s : List ℤ) (at w : ℕ) → at + w ≤ length s → length (take w (drop at s)) ≡ w
-part_length s at w h = length-take-le w (drop at s) (omega (arith, length-drop at s))
-
-pub part_at : (s : List ℤ) (at w k : ℕ) → k < w → get_or (take w (drop at s)) k (pos 0) ≡ get_or s (at + k) (pos 0)
-part_at s at w k h = get_or-take w (drop at s) k (pos 0) h ∙ get_or-drop at s k (pos 0)
-
--- all that follows
+-- ---- the samples from `at` on: all of them, and w of them as a table
 pub part_rest : (s : List ℤ) (at : ℕ) → take (length s - at) (drop at s) ≡ drop at s
 part_rest s at = let l = length-drop at s in take_all (length s - at) (drop at s) (omega arith)
 
 part_table : (f : ℕ → ℤ) (s : List ℤ) (at w : ℕ) → at + w ≤ length s → ((k : ℕ) → k < w → get_or s (at + k) (pos 0) ≡ f k)
     → take w (drop at s) ≡ table f 0 w
 part_table f s at w h e =
-    is_table f 0 w (take w (drop at s)) (part_length s at w h)
-    (λ k l. let z : 0 + k ≡ k = omega arith in rw z (part_at s at w k l ∙ e k l))
+    is_table f 0 w (take w (drop at s)) (part_length at w s h)
+    (λ k l. let z : 0 + k ≡ k = omega arith in rw z (part_at at w k s l ∙ e k l))
 
 -- ---- the row before
 module _ (prev avg : List ℤ) (w : ℕ) where

@@ -11,8 +11,8 @@ use lib.IntN.{ℤ, pos}
 use lib.ListN.{length, get_or, take, drop}
 use Rattle.line.specs.Pairs.{lines_of, Ordinary}
 use Rattle.line.proofs.Pairs.{OnePair, none, one, join}
+use Rattle.line.proofs.Outputs.{part_length, part_at}
 use Rattle.columns.specs.Rows.{Apart, Columns}
-use Rattle.columns.proofs.OuterRows.{part_length, part_at}
 
 -- ---- one pair of rows, of the averages and residuals at a
 pub one_pair : {w m n : ℕ} {avg res next old new : List ℤ} {from to a i : ℕ} {following : ℕ → ℤ}
@@ -20,14 +20,14 @@ pub one_pair : {w m n : ℕ} {avg res next old new : List ℤ} {from to a i : �
     → Columns (take w (drop a avg)) (take w (drop a res)) next old new from to 0 (length (take w (drop a avg)))
     → OnePair (lines_of false w m n avg res) following (λ k. get_or old (from + k) (pos 0)) old new i
 one_pair {w} {m} {n} {avg} {res} {next} {old} {new} {from} {to} {a} {i} {following} ea et room f c =
-    let l = part_length avg a w room in
+    let l = part_length a w avg room in
     record {
       long = c.long;
       firsts = λ k hk.
-          rw et at (c.firsts k (omega arith) (omega arith)) ∙ rw (part_at avg a w k hk, part_at res a w k hk, f k hk, ea) refl;
+          rw et at (c.firsts k (omega arith) (omega arith)) ∙ rw (part_at a w k avg hk, part_at a w k res hk, f k hk, ea) refl;
       seconds = λ k hk.
           let e : (i + i + 1) * w + k ≡ to + length (take w (drop a avg)) + k = omega arith in
-          rw e (c.seconds k (omega arith) (omega arith) ∙ rw (part_at avg a w k hk, part_at res a w k hk, f k hk, ea) refl);
+          rw e (c.seconds k (omega arith) (omega arith) ∙ rw (part_at a w k avg hk, part_at a w k res hk, f k hk, ea) refl);
       kept = λ q off.
           c.kept q
           (λ k g h.
@@ -80,7 +80,7 @@ module _ {avg res : List ℤ} {count w : ℕ} {old out : List ℤ} {from to a i 
             let ea = d.row_at in
             let r = next_room h in
             one_pair ea d.pair_at (omega arith)
-            (λ k hk. let e : a + w + k ≡ (i + 1) * w + k = omega arith in part_at avg (a + w) w k hk ∙ ap (λ (q : ℕ). get_or avg q (pos 0)) e) c
+            (λ k hk. let e : a + w + k ≡ (i + 1) * w + k = omega arith in part_at (a + w) w k avg hk ∙ ap (λ (q : ℕ). get_or avg q (pos 0)) e) c
 
   -- where the next pair goes
   pub down_apart : {room : ℕ} → (i + i) * w + w + w ≤ room → Apart from ((i + i) * w) w room

@@ -13,7 +13,7 @@ use Rattle.block.specs.Block.{lanes}
 use Rattle.block.proofs.Lanes.{Laned, laned}
 use Rattle.columns.specs.Rows.{Apart, Columns}
 use Rattle.line.proofs.Lines.{lt_or_ge}
-use Rattle.columns.proofs.OuterRows.{part_length, part_at}
+use Rattle.line.proofs.Outputs.{part_length, part_at}
 use Rattle.columns.proofs.Pastes.{pasted, pasted_length, pasted_in, pasted_off}
 
 -- the row before, from column x on, is off the columns before x
@@ -42,7 +42,7 @@ module _ (f : ℤ → ℤ → ℤ → ℤ → ℤ) (avg res next s : List ℤ) (
     eight_laned : Laned f (take 8 (drop x avg)) (take 8 (drop x res)) (take 8 (drop x next)) (take 8 (drop (from + x) s)) 8
     eight_laned =
         laned f 8 (take 8 (drop x avg)) (take 8 (drop x res)) (take 8 (drop x next)) (take 8 (drop (from + x) s))
-        (part_length avg x 8 ha) (part_length res x 8 hr) (part_length next x 8 hn) (part_length s (from + x) 8 hs)
+        (part_length x 8 avg ha) (part_length x 8 res hr) (part_length x 8 next hn) (part_length (from + x) 8 s hs)
 
     pub eight_length : length eight ≡ 8
     eight_length = eight_laned.long
@@ -54,7 +54,7 @@ module _ (f : ℤ → ℤ → ℤ → ℤ → ℤ) (avg res next s : List ℤ) (
         let e : x + (k - x) ≡ k = omega arith in
         let d : from + x + (k - x) ≡ from + k = omega arith in
         eight_laned.at (k - x) i
-        ∙ rw (part_at avg x 8 (k - x) i, part_at res x 8 (k - x) i, part_at next x 8 (k - x) i, part_at s (from + x) 8 (k - x) i, e, d) refl
+        ∙ rw (part_at x 8 (k - x) avg i, part_at x 8 (k - x) res i, part_at x 8 (k - x) next i, part_at (from + x) 8 (k - x) s i, e, d) refl
 
 module _ {avg res next : List ℤ} {from to : ℕ} where
   -- ---- two ranges

@@ -1,12 +1,12 @@
--- What stands in the lines of a squeeze and in its uncut output (specs/Uncut.antt), and in a strip's part of an outer line. Assumes nothing.
-use mathlib.Core.Path.{◌≡◌, refl}
+-- What stands in the lines of a squeeze and in its uncut output (specs/Uncut.antt), in a part of a slice, and in a strip's part of an outer line. Assumes nothing.
+use mathlib.Core.Path.{◌≡◌, refl, ◌∙◌}
 use mathlib.Core.List.{List, [], ◌∷◌}
 use mathlib.Core.Logic.{◌⊎◌, inl, inr}
 use Prim.Native.Nat.{ℕ, ◌+◌, ◌-◌, ◌*◌, ◌<◌, ◌≤◌}
 use native.Mathlib.Omega.{arith}
 use lib.IntN.{ℤ, pos}
 use lib.ListN.{length, get_or, take, drop, length-take, length-drop}
-use lib.Seq.{drop-cons, drop-drop, drop-nil, take-take}
+use lib.Seq.{get_or-take, get_or-drop, drop-cons, drop-drop, drop-nil, take-take}
 use Rattle.std.proofs.lemmas.List.{drop-take}
 use Rattle.line.specs.Line.{sample}
 use Rattle.line.specs.Uncut.{Squeeze, place, size, outer, line_of, output_at, uncut}
@@ -58,9 +58,12 @@ outer_at xs k h = rw (drop-cons xs k (pos 0) h)
 pub outer_none : (k : ℕ) → outer [] k ≡ []
 outer_none k = rw (drop-nil {A = ℤ} k)
 
--- a part of a slice, and a strip's part of an outer line that is absent or whole
+-- a part of a slice, its entries, and a strip's part of an outer line that is absent or whole
 pub part_length : (start n : ℕ) (xs : List ℤ) → start + n ≤ length xs → length (take n (drop start xs)) ≡ n
 part_length start n xs h = simp (length-take, length-drop) (omega arith)
+
+pub part_at : (start n i : ℕ) (xs : List ℤ) → i < n → get_or (take n (drop start xs)) i (pos 0) ≡ get_or xs (start + i) (pos 0)
+part_at start n i xs h = get_or-take n (drop start xs) i (pos 0) h ∙ get_or-drop start xs i (pos 0)
 
 pub outer_length : (start lines whole : ℕ) (xs : List ℤ) → start + lines ≤ whole → (length xs ≡ 0) ⊎ (length xs ≡ whole)
     → (length (take lines (drop start xs)) ≡ 0) ⊎ (length (take lines (drop start xs)) ≡ lines)

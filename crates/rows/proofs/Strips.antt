@@ -4,20 +4,18 @@
 use mathlib.Core.Path.{◌≡◌, refl, sym, ◌∙◌}
 use mathlib.Core.Bool.{true}
 use mathlib.Core.List.{List}
-use mathlib.Core.Logic.{◌⊎◌, inl, inr}
 use Prim.Native.Nat.{ℕ, ◌+◌, ◌-◌, ◌*◌, ◌/◌, ◌%◌, ◌<◌, ◌≤◌}
 use native.Mathlib.Omega.{arith}
 use native.Mathlib.Nat.{add-mul, mul-le-mul_right, mul-add-div_right, mul-add-mod_self_right}
 use lib.IntN.{ℤ, pos}
-use lib.ListN.{length, get_or, take, drop, length-take, length-drop}
-use lib.Seq.{length-take-le, get_or-take, get_or-drop}
+use lib.ListN.{length, get_or, take, drop}
 use Rattle.line.specs.Uncut.{Squeeze, squeeze, Fitting, line_of, output_at, uncut, table}
 use Rattle.line.specs.Into.{uncut_into}
 use Rattle.line.proofs.Into.{fitting_fits, into_fits}
 use Rattle.line.proofs.Tables.{is_table, table_at, table_cong, table_length}
 use Rattle.line.proofs.Places.{row_room, line_room, position_room}
 use Rattle.line.proofs.Lines.{Same, same_sample}
-use Rattle.line.proofs.Outputs.{outer_part}
+use Rattle.line.proofs.Outputs.{part_length, part_at, outer_length, outer_part}
 
 -- ---- c rows of n from row y on
 pub rows_room : (y c lines n : ℕ) → y + c ≤ lines → y * n + c * n ≤ lines * n
@@ -36,15 +34,9 @@ row_start y c n = let h : y ≤ y + c = omega arith in mul-le-mul_right n h
 pub size_fits : (lines size : ℕ) → 0 < lines → size ≤ lines * size
 size_fits lines size h = let s : 1 * size ≤ lines * size = mul-le-mul_right size h in omega arith
 
-pub part_length : (from n : ℕ) (xs : List ℤ) → from + n ≤ length xs → length (take n (drop from xs)) ≡ n
-part_length from n xs h = length-take-le n (drop from xs) (rw (length-drop from xs) (omega arith))
-
 -- one row
 pub row_length : (y lines n : ℕ) (xs : List ℤ) → y + 1 ≤ lines → length xs ≡ lines * n → length (take (1 * n) (drop (y * n) xs)) ≡ n
 row_length y lines n xs h e = let r = rows_room y 1 lines n h in part_length (y * n) (1 * n) xs (omega arith) ∙ omega arith
-
-part_at : (from n i : ℕ) (xs : List ℤ) → i < n → get_or (take n (drop from xs)) i (pos 0) ≡ get_or xs (from + i) (pos 0)
-part_at from n i xs h = get_or-take n (drop from xs) i (pos 0) h ∙ get_or-drop from xs i (pos 0)
 
 -- a row of the part
 row_at : (y c n k i : ℕ) (xs : List ℤ) → k < c → i < n → get_or (take (c * n) (drop (y * n) xs)) (k * n + i) (pos 0) ≡ get_or xs ((y + k) * n + i) (pos 0)
@@ -70,10 +62,6 @@ module _ (lines m n : ℕ) (avg res next prev : List ℤ) where
   whole = squeeze true lines m n avg res next prev
 
   module _ (f : Fitting whole) (y c : ℕ) (h : y + c ≤ lines) where
-    outer_length : (xs : List ℤ) → (length xs ≡ 0) ⊎ (length xs ≡ lines) → (length (take c (drop y xs)) ≡ 0) ⊎ (length (take c (drop y xs)) ≡ c)
-    outer_length xs (inl e) = inl (simp (length-take, length-drop) (omega arith))
-    outer_length xs (inr e) = inr (part_length y c xs (omega arith))
-
     pub strip_fitting : Fitting (strip whole y c)
     strip_fitting =
         record {
@@ -81,8 +69,8 @@ module _ (lines m n : ℕ) (avg res next prev : List ℤ) where
           high = f.high;
           avg_length = part_length (y * m) (c * m) avg (omega (arith, f.avg_length, rows_room y c lines m h));
           res_length = part_length (y * n) (c * n) res (omega (arith, f.res_length, rows_room y c lines n h));
-          next_length = outer_length next f.next_length;
-          prev_length = outer_length prev f.prev_length;
+          next_length = outer_length y c lines next h f.next_length;
+          prev_length = outer_length y c lines prev h f.prev_length;
         }
 
     pub strip_line : (k : ℕ) → k < c → Same (line_of whole (y + k)) (line_of (strip whole y c) k)

@@ -4,7 +4,8 @@ use Prim.Native.Nat.{ℕ, ◌+◌, ◌-◌}
 use native.Mathlib.Omega.{arith}
 use lib.ListN.{length}
 use Rattle.columns.specs.Rows.{row_before}
-use Rattle.columns.proofs.OuterRows.{part_length, before_length}
+use Rattle.line.proofs.Outputs.{part_length}
+use Rattle.columns.proofs.OuterRows.{before_length}
 use Rattle.columns.proofs.Pastes.{put_in}
 use Rattle.columns.proofs.AllRows.{averages_long, averages_alone, before_row_room, rows_together}
 use Rattle.columns.proofs.unsqueeze_fitting.Goals as goal
@@ -26,7 +27,7 @@ copy_from_slice-requires-2 c =
     let z : a.w + a.w - a.w ≡ a.w = omega arith in
     let l = before_length a.s.now.prev.now a.s.now.avg.now a.w in
     let r = before_row_room c.requires.0 a.out.now c.requires.3 (a.s.now.residuals - 1) (counted a.s.now.residuals c.if-n-eq0.false) in
-    rw (z, c.row_before.ensures, l) (part_length a.out.now a.w a.w (omega arith))
+    rw (z, c.row_before.ensures, l) (part_length a.w a.w a.out.now (omega arith))
 
 pub returns : goal.returns
 returns c =

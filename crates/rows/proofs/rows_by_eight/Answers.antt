@@ -4,8 +4,8 @@ use mathlib.Core.Bool.{true}
 use Prim.Native.Nat.{◌+◌, ◌*◌, ◌≤◌}
 use native.Mathlib.Omega.{arith}
 use Rattle.line.specs.Squeezed.{squeeze_of}
-use Rattle.line.proofs.Outputs.{uncut_length}
-use Rattle.rows.proofs.Strips.{rows_room, rows_span, part_length, strip_into}
+use Rattle.line.proofs.Outputs.{uncut_length, part_length}
+use Rattle.rows.proofs.Strips.{rows_room, rows_span, strip_into}
 use Rattle.rows.proofs.Parts.{part_strip}
 use Rattle.rows.proofs.Bands.{down_more}
 use Rattle.rows.proofs.rows_by_eight.Goals as goal
