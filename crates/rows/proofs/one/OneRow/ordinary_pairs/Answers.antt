@@ -10,22 +10,24 @@ use lib.ListN.{length, get_or}
 use Rattle.arith32.proofs.Whole.{back32}
 use Rattle.line.proofs.Pairs.{join}
 use Rattle.rows.proofs.Row.{row_ordinary}
-use Rattle.rows.proofs.one.ordinary_pairs.Goals as goal
+use Rattle.rows.proofs.one.OneRow.ordinary_pairs.Goals as goal
 
 pub loop-i-preserved : goal.loop-i-preserved
 loop-i-preserved c =
     let pair = c.unsqueeze-first in
     let a = c.args in
+    let s = a.self.now.squeezed in
+    let low = a.self.now.low in
     let i = c.loop-i.i in
     let l = c.loop-i.invariant.0.long in
-    let b1 = back32 (get_or a.s.now.avg.now i (pos 0)) (search rules) in
-    let b2 = back32 (get_or a.s.now.res.now i (pos 0)) (search rules) in
-    let b3 = back32 (get_or a.s.now.avg.now (i + 1) (pos 0)) (search rules) in
+    let b1 = back32 (get_or s.avg.now i (pos 0)) (search rules) in
+    let b2 = back32 (get_or s.res.now i (pos 0)) (search rules) in
+    let b3 = back32 (get_or s.avg.now (i + 1) (pos 0)) (search rules) in
     let z : 0 + i ≡ i = omega arith in (
-      join c.requires.0 (omega arith) c.loop-i.invariant.0
+      join low (omega arith) c.loop-i.invariant.0
           (rw z
-          (row_ordinary (length a.s.now.avg.now) (length a.s.now.res.now) a.s.now.avg.now a.s.now.res.now c.loop-i.out (get_or a.s.now.avg.now (i + 1) (pos 0)) _ _ _ i
-          (omega arith) c.requires.0 (omega arith)
+          (row_ordinary (length s.avg.now) (length s.res.now) s.avg.now s.res.now c.loop-i.out (get_or s.avg.now (i + 1) (pos 0)) _ _ _ i
+          (omega arith) low (omega arith)
           (back32 pair.result.first (search rules) ∙ rw (b1, b2, b3) at pair.ensures.0)
           (back32 pair.result.second (search rules) ∙ rw (b1, b2, b3) at pair.ensures.1)
           refl)),

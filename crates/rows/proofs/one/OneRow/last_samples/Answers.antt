@@ -10,18 +10,18 @@ use lib.ListN.{length, get_or}
 use Rattle.arith32.proofs.Whole.{back32}
 use Rattle.pair.specs.Pair.{first, second}
 use Rattle.rows.proofs.Row.{row_end, row_end_tail}
-use Rattle.rows.proofs.one.last_samples.Goals as goal
-use Rattle.rows.proofs.one.last_samples.Goals.{After-unsqueeze-first}
+use Rattle.rows.proofs.one.OneRow.last_samples.Goals as goal
+use Rattle.rows.proofs.one.OneRow.last_samples.Goals.{After-unsqueeze-first}
 
 -- the pair, by the values behind what was read
 made : (c : After-unsqueeze-first)
-    → let s = c.args.s.now in
+    → let s = c.args.self.now.squeezed in
     let p = c.unsqueeze-first.result in
     let a = get_or s.avg.now (length s.res.now - 1) (pos 0) in
     let r = get_or s.res.now (length s.res.now - 1) (pos 0) in
     (p.first ≡ first a r c.last_next.result c.args.prior) × (p.second ≡ second a r c.last_next.result c.args.prior)
 made c =
-    let s = c.args.s.now in
+    let s = c.args.self.now.squeezed in
     let i = length s.res.now - 1 in
     let b1 = back32 (get_or s.avg.now i (pos 0)) (search rules) in
     let b2 = back32 (get_or s.res.now i (pos 0)) (search rules) in
@@ -35,11 +35,11 @@ returns-then-n-s c =
     let p = c.unsqueeze-first.result in
     let next = c.last_next in
     let a = c.args in
-    let s = a.s.now in
+    let s = a.self.now.squeezed in
     let i = length s.res.now - 1 in
     let m = made c.before.before.before.before in
     row_end_tail (length s.avg.now) (length s.res.now) s.avg.now s.res.now s.next.now prev a.out.now next.result a.prior _ _ i
-    (omega arith) c.requires.1 c.requires.3 next.ensures (back32 p.first (search rules) ∙ m.0) (back32 p.second (search rules) ∙ m.1)
+    (omega arith) a.self.now.low c.requires.1 next.ensures (back32 p.first (search rules) ∙ m.0) (back32 p.second (search rules) ∙ m.1)
     _ c.if-n-s.true (back32 (get_or s.avg.now (length s.res.now) (pos 0)) (search rules))
 
 pub returns-else-n-s : goal.returns-else-n-s
@@ -48,9 +48,9 @@ returns-else-n-s c =
     let p = c.unsqueeze-first.result in
     let next = c.last_next in
     let a = c.args in
-    let s = a.s.now in
+    let s = a.self.now.squeezed in
     let i = length s.res.now - 1 in
     let m = made c.before.before.before in
     row_end (length s.avg.now) (length s.res.now) s.avg.now s.res.now s.next.now prev a.out.now next.result a.prior _ _ i
-    (omega arith) c.requires.1 c.requires.3 next.ensures (back32 p.first (search rules) ∙ m.0) (back32 p.second (search rules) ∙ m.1)
+    (omega arith) a.self.now.low c.requires.1 next.ensures (back32 p.first (search rules) ∙ m.0) (back32 p.second (search rules) ∙ m.1)
     c.if-n-s.false

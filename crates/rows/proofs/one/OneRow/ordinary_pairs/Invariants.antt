@@ -4,11 +4,11 @@ use mathlib.Core.Bool.{true}
 use Prim.Native.Nat.{◌-◌, ◌≤◌}
 use lib.ListN.{length}
 use Rattle.line.specs.Pairs.{lines_of, Ordinary}
-use Rattle.rows.proofs.one.ordinary_pairs.Given as goal
+use Rattle.rows.proofs.one.OneRow.ordinary_pairs.Given as goal
 
 abbrev pub invariant-loop-i : goal.invariant-loop-i
 invariant-loop-i l =
-    Ordinary (lines_of true 1 (length l.s.avg.now) (length l.s.res.now) l.s.avg.now l.s.res.now) (λ _. l.initial.before) (λ _. l.before) l.initial.out l.out 0 l.i × (l.i ≤ l.to)
+    Ordinary (lines_of true 1 (length l.self.squeezed.avg.now) (length l.self.squeezed.res.now) l.self.squeezed.avg.now l.self.squeezed.res.now) (λ _. l.initial.before) (λ _. l.before) l.initial.out l.out 0 l.i × (l.i ≤ l.to)
 
 abbrev pub decreases-loop-i : goal.decreases-loop-i
 decreases-loop-i l = l.to - l.i
