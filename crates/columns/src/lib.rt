@@ -87,7 +87,8 @@ fn columns_by_eight(
     w / 8 * 8
 }
 
-// The columns from `start` on, one by one.
+// The columns from `start` on, one by one. No twin of the eights but for the loop's head:
+// what they read, call and write is of another type, and only the eights say how far they came.
 fn columns_singly(
     avg: &[i32],
     res: &[i32],

@@ -1,7 +1,10 @@
 // Eight rows at a time, each lane of a block in a row of its own. The ordinary
 // pairs first, eight at a time while there are so many, the rest one by one;
-// then the last pair, whose next averages are chosen, and the tails. Total:
-// where sizes or slices do not fit the output stays as it was.
+// then the last pair, whose next averages are chosen, and the tails. One row goes
+// likewise (crate rows), but as single samples: the transposed stores and the parts of
+// residuals are for the vector code and the cache (horizontal no slower than the Rust),
+// and one function over both would be no plainer. Total: where sizes or slices do not
+// fit the output stays as it was.
 #![tactic(auto)]
 
 mod lanes;
@@ -29,7 +32,9 @@ fn outer_lanes(line: &[i32], other: [i32; 8]) -> [i32; 8]
     }
 }
 
-// Eight rows, their averages and residuals as long as they have to be.
+// Eight rows, their averages and residuals as long as they have to be. Their output is
+// lent to each method, since a struct that holds a `&mut` would have to say that it is
+// still the caller's.
 #[derive(Drop)]
 struct EightRows<'a> {
     squeezed: Squeezed<'a>,
