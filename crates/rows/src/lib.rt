@@ -60,9 +60,9 @@ fn rows_by_eight(s: &Squeezed<'_>, lines: usize, out: &mut [i32]) -> usize
     lines / 8 * 8
 }
 
-// The rows from the given one on, one by one. One function for these and the eights would
-// take the step and the call as arguments, and a clause that says what the call gives, which
-// is longer than the loop: no plainer.
+// The rows from the given one on, one by one. One function for these and the eights, with
+// the step and the call as arguments, was tried: a clause longer than this loop has to say
+// what a call gives, and the products of step and turn left goals that 8 and 1 have not.
 #[tactic(auto, using(crate::proofs::Strips::row_start, crate::proofs::Strips::row_end, crate::proofs::Strips::size_fits))]
 fn rows_singly(s: &Squeezed<'_>, lines: usize, from: usize, out: &mut [i32])
     requires { Fitting (squeeze_of true lines s.now) × (0 < s.now.averages) × (length out.old ≡ lines * (s.now.averages + s.now.residuals)) × (from ≤ lines) }
