@@ -116,57 +116,58 @@ fn span_of(
     })
 }
 
-fn tile(
-    rule: StoredStart,
-    dimension: u32,
+// A channel whose form passed question 4, with a group dimension that is allowed and a
+// grid position.
+#[derive(Clone, Copy)]
+struct Cell {
     channel: Channel,
     group: u32,
     gx: u16,
     gy: u16,
-) -> Result<Rect, Refusal>
-    requires { Parts.Dimensions dimension group × (is_allowed channel ≡ true) }
-    ensures { Spec.answered result ≡ Spec.tile_unless_meta (Parts.rule_of rule) dimension channel group gx gy }
-{
-    if channel.is_meta() {
-        return Err(Refusal::Tile);
-    }
-    let across = span_of(rule, dimension, group, channel.width, channel.hshift, gx);
-    let down = span_of(rule, dimension, group, channel.height, channel.vshift, gy);
-    match (across, down) {
-        (Some(across), Some(down)) => Ok(Rect {
-            x: across.start,
-            y: down.start,
-            width: across.size,
-            height: down.size,
-        }),
-        _ => Ok(Rect::default()),
-    }
+    ghost allowed: { is_allowed channel ≡ true },
+    ghost small: { group ≤ Parts.max_group },
 }
 
-// Kinds are None (0), LF (1) and HF (2); the first of a pair is the output kind, the
-// second the stored kind. A rule of the project has both as numbers, with one match over
-// the combinations: any byte may come, and enums of three would ask more of callers.
-#[tactic(auto, unfolding(crate::specs::Rect::by_kinds))]
-fn rect_by_kinds(
-    channel: Channel,
-    output: u8,
-    stored: u8,
-    group: u32,
-    gx: u16,
-    gy: u16,
-) -> Result<Rect, Refusal>
-    requires { (group ≤ Parts.max_group) × (is_allowed channel ≡ true) }
-    ensures { Spec.answered result ≡ Spec.by_kinds output stored channel group gx gy }
-{
-    let lf = LF_GROUPS * group;
-    match (output, stored) {
-        (0, 0) => Ok(whole(channel)),
-        (1, 0) => tile(StoredStart::Itself, lf, channel, group, gx, gy),
-        (1, 1) => tile(StoredStart::Zero, lf, channel, group, gx, gy),
-        (2, 0) => tile(StoredStart::Itself, group, channel, group, gx, gy),
-        (2, 1) => tile(StoredStart::WithinLf, group, channel, group, gx, gy),
-        (2, 2) => tile(StoredStart::Zero, group, channel, group, gx, gy),
-        _ => Err(Refusal::Tile),
+impl Cell {
+    fn tile(self, rule: StoredStart, dimension: u32) -> Result<Rect, Refusal>
+        requires { dimension ≤ Spec.lf_dimension self.group }
+        ensures { Spec.answered result ≡ Spec.tile_unless_meta (Parts.rule_of rule) dimension self.channel self.group self.gx self.gy }
+    {
+        let c = self.channel;
+        if c.is_meta() {
+            return Err(Refusal::Tile);
+        }
+        let across = span_of(rule, dimension, self.group, c.width, c.hshift, self.gx);
+        let down = span_of(rule, dimension, self.group, c.height, c.vshift, self.gy);
+        match (across, down) {
+            (Some(across), Some(down)) => Ok(Rect {
+                x: across.start,
+                y: down.start,
+                width: across.size,
+                height: down.size,
+            }),
+            _ => Ok(Rect::default()),
+        }
+    }
+
+    // Kinds are None (0), LF (1) and HF (2); the first of a pair is the output kind, the
+    // second the stored kind. A rule of the project has both as numbers, with one match
+    // over the combinations: any byte may come, and enums of three would ask more of
+    // callers.
+    #[tactic(auto, unfolding(crate::specs::Rect::by_kinds))]
+    fn rect_by_kinds(self, output: u8, stored: u8) -> Result<Rect, Refusal>
+        ensures { Spec.answered result ≡ Spec.by_kinds output stored self.channel self.group self.gx self.gy }
+    {
+        let lf = LF_GROUPS * self.group;
+        match (output, stored) {
+            (0, 0) => Ok(whole(self.channel)),
+            (1, 0) => self.tile(StoredStart::Itself, lf),
+            (1, 1) => self.tile(StoredStart::Zero, lf),
+            (2, 0) => self.tile(StoredStart::Itself, self.group),
+            (2, 1) => self.tile(StoredStart::WithinLf, self.group),
+            (2, 2) => self.tile(StoredStart::Zero, self.group),
+            _ => Err(Refusal::Tile),
+        }
     }
 }
 
@@ -188,5 +189,11 @@ pub fn get_grid_rect(
     if !is_group_allowed(group) {
         return Err(Refusal::Tile);
     }
-    rect_by_kinds(channel, output, stored, group, gx, gy)
+    let cell = Cell {
+        channel,
+        group,
+        gx,
+        gy,
+    };
+    cell.rect_by_kinds(output, stored)
 }
