@@ -32,6 +32,7 @@ use Rattle.record.proofs.Pushed.{list_count}
 use Rattle.record.proofs.Joined.{joined_snoc}
 use Rattle.record.proofs.Forms.{fields_have}
 use Rattle.record.proofs.Outcomes.{write_fits, written_length, written_bytes_lem}
+use Rattle.record.proofs.Readings.{read_answer_lem}
 
 none {ℓ} : {A : Type ℓ} (xs : List A) → length xs ≤ 0 → xs ≡ []
 none [] h = refl
@@ -184,15 +185,7 @@ module _ (bytes : List ℕ) (b : AreBytes bytes) (h : read_answer bytes ≡ 0) w
 pub written_read : WrittenReadLaw
 written_read = gives_back
 
-answer_is : (bytes : List ℕ) → (read_of bytes).answer ≡ read_answer bytes
-unfolding read_of
-answer_is bytes = go (eqb (read_answer bytes) 0) refl
-  where
-    go : (t : Bool) → eqb (read_answer bytes) 0 ≡ t → (read_of bytes).answer ≡ read_answer bytes
-    go true e = rw e (sym (eqb-true (read_answer bytes) 0 e))
-    go false e = rw e
-
 pub one_record : OneRecord
 one_record x y bx by h e =
-    let k : read_answer y ≡ 0 = sym (answer_is y) ∙ sym (ap (λ (r : Record). r.answer) e) ∙ answer_is x ∙ h in
+    let k = sym (read_answer_lem y (read_of x) e) ∙ read_answer_lem x (read_of x) refl ∙ h in
     sym (back x bx h) ∙ ap (λ (r : Record). record_for r.version r.list r.steps) e ∙ back y by k
