@@ -181,7 +181,7 @@ fn kind<R: Read, F: Fn(&[u8]) -> bool>(
 {
     let mut space = [0u8; CASE];
     let tally = replay::count(input, &mut space, agrees)?;
-    replay::say(rt, name, tally.cases, tally.right)
+    replay::say(rt, name, tally)
 }
 
 fn main(rt: HostRuntime) -> io::Result<()> {

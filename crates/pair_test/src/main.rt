@@ -61,7 +61,7 @@ fn main(rt: HostRuntime) -> io::Result<()> {
     let n = reading::read_full(&mut rt.reader(), &mut buffer)?;
     let bytes = &buffer[..n];
     let pairs = count_in(bytes, PAIR, pair_agrees);
-    say(&rt, "pairs ", pairs.cases, pairs.right)?;
+    say(&rt, "pairs ", pairs)?;
     let blocks = count_in(bytes, BLOCK, block_agrees);
-    say(&rt, "blocks ", blocks.cases, blocks.right)
+    say(&rt, "blocks ", blocks)
 }

@@ -11,7 +11,7 @@ ghost use Rattle.std.specs.Prelude.{◌<◌, ◌≤◌};
 use listing::LISTING_ROOM;
 use numbers::Refusal;
 use plan::Form;
-use replay::{read_case, read_word, say};
+use replay::{Tally, read_case, read_word, say};
 use samples::word_at;
 use std::io;
 use std::io::Read;
@@ -118,7 +118,7 @@ fn writes_back(form: &Form, bytes: &[u8]) -> Option<bool> {
 }
 
 // How many numbers the four slices of a layout have.
-#[derive(Clone, Copy)]
+#[derive(Clone, Copy, Default)]
 struct Lengths {
     counts: usize,
     steps: usize,
@@ -127,13 +127,6 @@ struct Lengths {
 }
 
 impl Lengths {
-    const NOTHING: Lengths = Lengths {
-        counts: 0,
-        steps: 0,
-        channels: 0,
-        origins: 0,
-    };
-
     // Those that a layout with these rows needs; its counts have the version, how many
     // steps there are, and how many channels.
     fn needed(rows: &[u8]) -> Lengths {
@@ -247,7 +240,7 @@ fn lays(
     let found = rooms.lay(bytes, lent)?;
     let left = match wanted {
         Ok(()) => rooms.hold(rows, needed)?,
-        Err(_) => rooms.hold(b"", Lengths::NOTHING)?,
+        Err(_) => rooms.hold(b"", Lengths::default())?,
     };
     Some((found == wanted) & left)
 }
@@ -309,7 +302,11 @@ fn kind<R: Read, F: Fn(&[u8], &[u8], &[u8]) -> bool>(
             right += 1;
         }
     }
-    say(rt, name, cases as u64, right)
+    let tally = Tally {
+        cases: cases as u64,
+        right,
+    };
+    say(rt, name, tally)
 }
 
 fn main(rt: HostRuntime) -> io::Result<()> {

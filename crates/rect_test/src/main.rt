@@ -52,5 +52,5 @@ fn main(rt: HostRuntime) -> io::Result<()> {
     let mut buffer = zeros::<u8, INPUT>();
     let n = reading::read_full(&mut rt.reader(), &mut buffer)?;
     let rects = replay::count_in(&buffer[..n], CASE, case_agrees);
-    replay::say(&rt, "rects ", rects.cases, rects.right)
+    replay::say(&rt, "rects ", rects)
 }

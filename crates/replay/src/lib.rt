@@ -40,16 +40,16 @@ pub fn read_case<'s, R: Read>(input: &mut R, space: &'s mut [u8]) -> io::Result<
     Ok(Some(room))
 }
 
-// "kind", the cases of this kind and how many of them are right, on one line.
-pub fn say(rt: &impl Print, kind: &str, cases: u64, right: u64) -> io::Result<()> {
-    println!(rt; "{kind}{cases} right {right}")
-}
-
 // How many cases of a kind there were, and how many of them were right.
 #[derive(Clone, Copy, PartialEq, Eq, Debug)]
 pub struct Tally {
     pub cases: u64,
     pub right: u64,
+}
+
+// "kind", the cases of this kind and how many of them are right, on one line.
+pub fn say(rt: &impl Print, kind: &str, tally: Tally) -> io::Result<()> {
+    println!(rt; "{kind}{} right {}", tally.cases, tally.right)
 }
 
 // Replays the cases of the next kind, how many stands before them, one after the other

@@ -223,7 +223,7 @@ fn kind<R: Read>(rt: &impl Print, input: &mut R, name: &str) -> io::Result<()> {
     let tally = replay::count(input, &mut space, |case| {
         agrees(case, &mut rooms) == Some(true)
     })?;
-    replay::say(rt, name, tally.cases, tally.right)
+    replay::say(rt, name, tally)
 }
 
 fn main(rt: HostRuntime) -> io::Result<()> {
