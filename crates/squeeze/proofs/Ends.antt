@@ -50,6 +50,12 @@ module _ (bytes : List ℕ) (a : ℕ) (e : a ≡ read_answer bytes) (h : a ≡ 0
   unfolding answer
   refused_answer = rw (← e, ne_eqb a 0 h)
 
+-- ---- a record that is accepted: f is what `read_record` gives
+module _ (bytes : List ℕ) (f : Record) (e : f ≡ read_of bytes) (z : f.answer ≡ 0) (p q w : List ℤ) where
+  write_answer_lem : W.answer f.version f.list f.steps p q w ≡ answer bytes p q w
+  unfolding W.answer W.slices_fit answer
+  write_answer_lem = rw (read_judged bytes f e z, read_zero bytes f e z, list_back bytes f e z)
+
 module _ (run : List Step → List Channel → List ℤ → List ℤ) (bytes : List ℕ) (p q w : List ℤ) where
   abbrev Ended : ℕ → List ℤ → List ℤ → Type 0
   Ended a q' w' = (a ≡ answer bytes p q w) × (q' ≡ filled_of run bytes p q w) × (w' ≡ work_of bytes p q w)
@@ -63,11 +69,6 @@ module _ (run : List Step → List Channel → List ℤ → List ℤ) (bytes : L
         let z : eqb (answer bytes p q w) 0 ≡ false = rw (← r) (ne_eqb a 0 h) in
         (r, rw z, rw z)
 
-  -- a record that is accepted: f is what `read_record` gives
-  same : (f : Record) → f ≡ read_of bytes → f.answer ≡ 0 → asked f.version f.list f.steps p q w ≡ answer bytes p q w
-  unfolding answer
-  same f e z = rw (read_judged bytes f e z, read_zero bytes f e z, list_back bytes f e z)
-
   -- f is what `read_form` gave
   module _ (f : Record) (e : f ≡ packed_form (form_of bytes)) where
     refused : (f.answer ≡ 0 → ⊥) → Ended f.answer q w
@@ -77,13 +78,13 @@ module _ (run : List Step → List Channel → List ℤ → List ℤ) (bytes : L
     done : f.answer ≡ 0 → (r : ℕ) (q' w' : List ℤ)
         → (r ≡ asked f.version f.list f.steps p q w) × (q' ≡ filled run f.version f.list f.steps p q w) × (w' ≡ worked f.version f.list f.steps p q w)
         → Ended r q' w'
-    unfolding work_of
+    unfolding W.answer W.slices_fit work_of
     done z r q' w' h = by (eqb (judge_plan f.version f.list f.steps) 0) refl
       where
         by : (b : Bool) → eqb (judge_plan f.version f.list f.steps) 0 ≡ b → Ended r q' w'
         by true t =
             let g = form_read bytes f e z (eqb-true (judge_plan f.version f.list f.steps) 0 t) in
-            let n : asked f.version f.list f.steps p q w ≡ answer bytes p q w = same f g z in
+            let n : asked f.version f.list f.steps p q w ≡ answer bytes p q w = write_answer_lem bytes f g z p q w in
             (h.0 ∙ n, h.1 ∙ rw (n, version_is bytes f g z, list_back bytes f g z, steps_back bytes f g z) refl, h.2 ∙ rw n refl)
         by false t =
             let k = kept (judge_plan f.version f.list f.steps) (form_judged bytes f e z) (eqb-false _ 0 t) in

@@ -71,6 +71,7 @@ pub fn squeeze_grid_rect(
     if numbers.len() != RECT_NUMBERS {
         return Err(Refusal::Length);
     }
+    // In the C function's order, which `rect` does not know.
     numbers.copy_from_slice(&[found.x, found.y, found.width, found.height]);
     Ok(())
 }
