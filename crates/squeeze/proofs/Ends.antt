@@ -8,7 +8,10 @@ use lib.Dec.{eqb}
 use lib.IntN.{ℤ}
 use lib.ListN.{length}
 use borrow.Author.Tests.{ne_eqb, eqb-true, eqb-false}
-use Rattle.numbers.specs.Numbers.{refused_length}
+use Rattle.std.specs.Prelude.{Err}
+use Rattle.numbers.specs.declared.Refusal.{Refusal}
+use Rattle.numbers.specs.Numbers.{refused_length, number_of}
+use Rattle.numbers.proofs.Refusals.{number_some}
 use Rattle.channel.specs.declared.Channel.{Channel}
 use Rattle.list.specs.declared.ChannelList.{ChannelList}
 use Rattle.list.specs.declared.Step.{Step}
@@ -17,7 +20,7 @@ use Rattle.list.specs.Questions.{ask}
 use Rattle.plan.specs.declared.Steps.{Steps}
 use Rattle.plan.specs.Steps.{steps}
 use Rattle.plan.specs.Plans.{meant, judge_plan}
-use Rattle.record.specs.Told.{Record}
+use Rattle.record.specs.Told.{Record, record_told}
 use Rattle.record.specs.Reading.{form_of}
 use Rattle.record.specs.Records.{packed_form, read_answer, read_of, channels_of, steps_of}
 use Rattle.record.proofs.Outcomes.{read_refused, form_judged, form_read}
@@ -90,17 +93,20 @@ module _ (run : List Step → List Channel → List ℤ → List ℤ) (bytes : L
             let k = kept (judge_plan f.version f.list f.steps) (form_judged bytes f e z) (eqb-false _ 0 t) in
             (h.0 ∙ rw t k.0, h.1 ∙ rw (t, t) k.1, h.2 ∙ rw (t, t) k.2)
 
--- ---- the plan run, and the writer: f is what `read_form` gave
-module _ (bytes : List ℕ) (f : Record) (e : f ≡ packed_form (form_of bytes)) (p q w : List ℤ) where
-  pub rebuild_refused : (f.answer ≡ 0 → ⊥) → (f.answer ≡ answer bytes p q w) × (q ≡ picture_of bytes p q w) × (w ≡ work_of bytes p q w)
-  unfolding picture_of
-  rebuild_refused = refused rebuilt bytes p q w f e
+-- ---- the plan run, and the writer
+module _ (bytes : List ℕ) (p q w : List ℤ) where
+  -- r is what `read_form` refused, and a the answer
+  module _ (r : Refusal) (e : record_told (Err r) ≡ packed_form (form_of bytes)) (a : ℕ) (h : a ≡ number_of r) where
+    pub rebuild_refused : (a ≡ answer bytes p q w) × (q ≡ picture_of bytes p q w) × (w ≡ work_of bytes p q w)
+    unfolding picture_of
+    rebuild_refused = rw h (refused rebuilt bytes p q w (record_told (Err r)) e (number_some r))
 
-  pub write_refused : (f.answer ≡ 0 → ⊥) → (f.answer ≡ answer bytes p q w) × (q ≡ pyramid_of bytes p q w) × (w ≡ work_of bytes p q w)
-  unfolding pyramid_of
-  write_refused = refused squeezed bytes p q w f e
+    pub write_refused : (a ≡ answer bytes p q w) × (q ≡ pyramid_of bytes p q w) × (w ≡ work_of bytes p q w)
+    unfolding pyramid_of
+    write_refused = rw h (refused squeezed bytes p q w (record_told (Err r)) e (number_some r))
 
-  module _ (z : f.answer ≡ 0) (r : ℕ) (q' w' : List ℤ) where
+  -- f is what `read_form` gave
+  module _ (f : Record) (e : f ≡ packed_form (form_of bytes)) (z : f.answer ≡ 0) (r : ℕ) (q' w' : List ℤ) where
     pub rebuild_done : (r ≡ B.answer_of f.version f.list f.steps p q w) × (q' ≡ B.picture_after f.version f.list f.steps p q w) × (w' ≡ B.work_after f.version f.list f.steps p q w)
         → (r ≡ answer bytes p q w) × (q' ≡ picture_of bytes p q w) × (w' ≡ work_of bytes p q w)
     unfolding B.answer_of B.slices_fit B.picture_after B.work_after picture_of
