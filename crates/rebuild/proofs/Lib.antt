@@ -8,4 +8,3 @@ pub mod StepsBack
 pub mod Settling
 pub mod Ends
 pub mod Outcome
-pub mod Lays

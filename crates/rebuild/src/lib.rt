@@ -18,7 +18,7 @@ ghost use Rattle.rebuild.specs.Run.{sides_of, start_of, made_of, lying_in, chann
 
 use list::{ChannelList, Step};
 use numbers::Refusal;
-use places::{Place, Places, Slot, behind};
+use places::{Place, Places, Slot};
 use plan::{Form, Steps};
 use tile::Sides;
 
@@ -139,21 +139,12 @@ struct Sources {
 }
 
 impl Sources {
-    // All at the pyramid's start.
-    fn new() -> Self {
-        Sources {
-            entries: [Source::Pyramid(0); 256],
-        }
-    }
-
     // All in the pyramid, one after the other.
-    fn lay(&mut self, places: &Places)
-        ensures { Lying places.now self.new }
+    fn lay(places: &Places) -> Self
+        ensures { Lying places.now result }
     {
-        let mut at = 0;
-        for k in 0..places.len() {
-            self.entries[k] = Source::Pyramid(at);
-            at = behind(at, places.places[k].area());
+        Sources {
+            entries: places.starts().map(Source::Pyramid),
         }
     }
 
@@ -256,8 +247,7 @@ fn run(list: &ChannelList, steps: &Steps, pyramid: &[i32], picture: &mut [i32], 
     let count = steps.len();
     let mut places = Places::empty();
     take_steps(&mut places, list, steps, count);
-    let mut sources = Sources::new();
-    sources.lay(&places);
+    let mut sources = Sources::lay(&places);
     for m in (0..count).rev() {
         take_steps(&mut places, list, steps, m);
         take_back(&places, steps.step(m), &mut sources, pyramid, picture, work);

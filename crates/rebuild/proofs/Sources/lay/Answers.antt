@@ -1,23 +1,14 @@
--- `lay` meets its contract: the first k lie in the pyramid, and the next starts at `at`. Assumes nothing.
-use mathlib.Core.Path.{refl, ap, ◌∙◌}
-use Prim.Native.Nat.{ℕ}
+-- `lay` meets its contract: each source is made of the start at its index. Assumes nothing.
+use mathlib.Core.Path.{ap, ◌∙◌}
 use native.Mathlib.Omega.{arith}
-use Rattle.places.specs.Places as Places
-use Rattle.places.specs.Places.{area, place_at}
-use Rattle.places.proofs.Homes.{laying_more, laying_all}
-use Rattle.rebuild.proofs.Lays.{start_in, lying_all}
+use Rattle.list.specs.Lists.{max_channels}
+use Rattle.list.proofs.Filled.{padded_at}
+use Rattle.places.specs.Places.{starts_from, areas_in}
+use Rattle.rebuild.specs.declared.Source.TheVariants.{Pyramid}
 use Rattle.rebuild.proofs.Sources.lay.Goals as goal
 
-pub loop-k-preserved : goal.loop-k-preserved
-loop-k-preserved c =
-    let w = c.loop-k in
-    let p = c.args.places.now in
-    laying_more start_in (λ (k : ℕ). area (place_at p k)) c.len-k-end.result _ w.self.entries w.at w.k w.invariant _ c.behind-at.result (omega arith) (omega arith)
-    refl (c.behind-at.ensures ∙ ap (Places.behind w.at) c.area.ensures)
-
 pub returns : goal.returns
-returns c =
-    let w = c.loop-k in
-    let p = c.args.places.now in
-    lying_all p c.len-k-end.result _ w.self c.len-k-end.ensures
-    (laying_all start_in (λ (k : ℕ). area (place_at p k)) c.len-k-end.result _ w.self.entries w.at w.k w.invariant (omega arith) (omega arith))
+returns c j h =
+    let called = (c.map.ensures.items.at j 0 (Pyramid 0) (omega arith)).2 in
+    called.met
+    ∙ ap Pyramid (rw c.starts.ensures (padded_at max_channels (starts_from 0 (areas_in c.args.places.now)) j (omega arith)))
