@@ -27,8 +27,12 @@ use Rattle.plan.specs.Steps.{step_at, steps}
 use Rattle.plan.specs.Plans.{judge_steps, stepped_all, origins_all, origins_left, outcome, ran}
 
 -- ---- the list `now` is reached, and the steps from k on are left
-abbrev left : Steps → ℕ → List Step
+abbrev pub left : Steps → ℕ → List Step
 left s k = table (step_at s) k (min s.count max_steps - k)
+
+-- step x is the one at k
+pub left_next : (s : Steps) (k : ℕ) → k < min s.count max_steps → (x : Step) → x ≡ step_at s k → left s k ≡ x ∷ left s (k + 1)
+left_next s k h x ex = rw ex (table_rest (step_at s) k (min s.count max_steps) h)
 
 pub record Reached (l : ChannelList) (s : Steps) (now : ChannelList) (k : ℕ) : Type 0 where
   pub inside : k ≤ min s.count max_steps
@@ -63,9 +67,6 @@ module _ (l : ChannelList) (s : Steps) where
 
   -- step x is the one at k, and t what the list makes of it
   module _ (now : ChannelList) (k : ℕ) (w : Reached l s now k) (h : k < min s.count max_steps) (x : Step) (ex : x ≡ step_at s k) (t : Stepped) (et : t ≡ taken_on x now) where
-    split : left s k ≡ x ∷ left s (k + 1)
-    split = rw ex (table_rest (step_at s) k (min s.count max_steps) h)
-
     answered : t.answer ≡ judge_step x (channels now)
     answered = ap (λ (u : Stepped). u.answer) et ∙ on_answer x now
 
@@ -73,7 +74,7 @@ module _ (l : ChannelList) (s : Steps) where
     unfolding outcome ran
     reached_stop refused =
         let e = ne_eqb t.answer 0 refused in
-        let whole : t.answer ≡ judge_steps (steps s) (channels l) = rw (split, ← answered, e) at w.judged in
+        let whole : t.answer ≡ judge_steps (steps s) (channels l) = rw (left_next s k h x ex, ← answered, e) at w.judged in
         rw (← whole, e)
 
     pub reached_more : t.answer ≡ 0 → Reached l s t.list (k + 1)
@@ -87,9 +88,9 @@ module _ (l : ChannelList) (s : Steps) where
         (stepped_allowed x (channels now) ok w.ok)
         (origins_stepped x (origins now) (omega arith) ∙ omega (arith, stepped_length x (channels now) inside))
         (ap (λ (u : Stepped). u.list) (et ∙ on_taken x now zero))
-        (rw (split, zero) at w.judged)
-        (rw split at w.stepped)
-        (rw split at w.origined)
+        (rw (left_next s k h x ex, zero) at w.judged)
+        (rw (left_next s k h x ex) at w.stepped)
+        (rw (left_next s k h x ex) at w.origined)
 
   pub reached_all : (now : ChannelList) (k : ℕ) → min s.count max_steps ≤ k → Reached l s now k → record { answer = 0; list = now } ≡ ran (steps s) l
   unfolding outcome ran

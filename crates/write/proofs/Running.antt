@@ -1,7 +1,7 @@
 -- Accepted steps one after the other on the places of a list (`squeezed` of crate runs): before each step the list that is reached, what its places
 -- hold and the steps that are left give the whole run. Assumes nothing.
 use mathlib.Core.Path.{◌≡◌, sym, ap, ◌∙◌}
-use mathlib.Core.List.{List, [], ◌∷◌}
+use mathlib.Core.List.{List, []}
 use Prim.Native.Nat.{ℕ, ◌+◌, ◌-◌, ◌<◌, ◌≤◌, min}
 use native.Mathlib.Omega.{arith}
 use borrow.Author.Tests.{leb-true}
@@ -10,12 +10,11 @@ use lib.ListN.{length}
 use Rattle.numbers.specs.Numbers.{max_samples}
 use Rattle.channel.specs.declared.Channel.{Channel}
 use Rattle.list.specs.declared.Step.{Step}
-use Rattle.list.specs.Tables.{table}
 use Rattle.list.specs.Lists.{max_channels, max_steps, stepped, total}
 use Rattle.list.specs.Questions as Questions
 use Rattle.list.specs.Questions.{channel_of, judge_step}
 use Rattle.list.specs.Accepted.{Accepted, StepAccepted}
-use Rattle.list.proofs.Tables.{table_rest, table_none}
+use Rattle.list.proofs.Tables.{table_none}
 use Rattle.list.proofs.Maps.{map_length, map_at}
 use Rattle.list.proofs.Acceptance.{step_accepted}
 use Rattle.list.proofs.Kept.{stepped_allowed}
@@ -32,6 +31,7 @@ use Rattle.plan.specs.declared.Steps.{Steps}
 use Rattle.plan.specs.Steps as S
 use Rattle.plan.specs.Steps.{step_at, steps}
 use Rattle.plan.specs.Plans.{judge_steps}
+use Rattle.plan.proofs.Reached.{left, left_next}
 use Rattle.plan.proofs.Runs.{none_refused}
 use Rattle.runs.specs.Parts.{joined}
 use Rattle.runs.specs.Runs as Runs
@@ -61,9 +61,6 @@ module _ (picture odds evens : List ℤ) (alike : Alike picture odds evens) wher
       ap length (map_at (lying picture odds evens) ps k _ [] b) ∙ lying_length (place_of ps k) (w.inside k b) ∙ sided_area cs ps s k b)
 
 -- ---- the run
-abbrev left : Steps → ℕ → List Step
-left s k = table (step_at s) k (min s.count max_steps - k)
-
 -- a list is reached, with these places, and the steps from k on are left
 pub record Running (l : List Channel) (s : Steps) (picture : List ℤ) (ps : List Place) (odds evens : List ℤ) (k : ℕ) : Type 0 where
   pub cs : List Channel
@@ -90,11 +87,8 @@ module _ (l : List Channel) (s : Steps) (picture : List ℤ) where
 
   -- step x is the one at k
   module _ (ps : List Place) (odds evens : List ℤ) (k : ℕ) (w : Running l s picture ps odds evens k) (h : k < min s.count max_steps) (x : Step) (ex : x ≡ step_at s k) where
-    split : left s k ≡ x ∷ left s (k + 1)
-    split = rw ex (table_rest (step_at s) k (min s.count max_steps) h)
-
     apart : (judge_step x w.cs ≡ 0) × (judge_steps (left s (k + 1)) (stepped x w.cs) ≡ 0)
-    apart = none_refused (judge_step x w.cs) (judge_steps (left s (k + 1)) (stepped x w.cs)) (rw split at w.judged)
+    apart = none_refused (judge_step x w.cs) (judge_steps (left s (k + 1)) (stepped x w.cs)) (rw (left_next s k h x ex) at w.judged)
 
     pub accepted : StepAccepted x w.cs
     accepted = step_accepted x w.cs apart.0
@@ -126,7 +120,7 @@ module _ (l : List Channel) (s : Steps) (picture : List ℤ) where
           sided = rw ep (sided_step x cs ps accepted.inside w.sided);
           laid = rw ep (laid_step (length picture) x ps reach.0 (small ps odds evens k w) w.laid);
           alike = record { odds_length = lo ∙ a.odds_length; evens_length = le ∙ a.evens_length };
-          so = rw (ep, ← t) (rw (split, apart.0) at w.so);
+          so = rw (ep, ← t) (rw (left_next s k h x ex, apart.0) at w.so);
         }
 
   pub running_all : (ps : List Place) (odds evens : List ℤ) (k : ℕ) → min s.count max_steps ≤ k → Running l s picture ps odds evens k
