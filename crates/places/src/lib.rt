@@ -16,8 +16,9 @@ use numbers::MAX_SAMPLES;
 
 // Which slice a channel stands in: what no step has made, what an odd number of
 // steps have, or what an even number have.
-#[derive(Clone, Copy, PartialEq, Eq, Debug)]
+#[derive(Clone, Copy, PartialEq, Eq, Debug, Default)]
 pub enum Slot {
+    #[default]
     Unmade,
     Odd,
     Even,
@@ -37,8 +38,8 @@ impl Slot {
     }
 }
 
-// A channel's sides, the start of its home, and its slot.
-#[derive(Clone, Copy, PartialEq, Eq, Debug)]
+// A channel's sides, the start of its home, and its slot; by default no channel's.
+#[derive(Clone, Copy, PartialEq, Eq, Debug, Default)]
 pub struct Place {
     pub width: u32,
     pub height: u32,
@@ -55,14 +56,6 @@ pub fn behind(home: usize, n: usize) -> usize
 }
 
 impl Place {
-    // No channel's place.
-    pub const NONE: Place = Place {
-        width: 0,
-        height: 0,
-        home: 0,
-        slot: Slot::Unmade,
-    };
-
     // The samples of its channel, as a length: not by `Channel::samples`, which counts
     // what no slice may hold.
     pub fn area(self) -> usize
@@ -71,7 +64,8 @@ impl Place {
         self.width as usize * self.height as usize
     }
 
-    // Its sides as a channel, which are all that a squeeze knows of one.
+    // Its sides as a channel, which are all that a squeeze knows of one: no `From`, as
+    // home and slot are left out.
     pub fn channel(self) -> Channel
         ensures { result ≡ Spec.bare self }
     {
@@ -114,8 +108,8 @@ impl Place {
     }
 }
 
-// The places of a list's channels: the first `count` of the array, which takes fixed
-// memory and no heap.
+// The places of a list's channels: the first `count` of the array. No `ArrayVec`: any
+// count may come in, and `step` says of the array past it that it stays.
 #[derive(Clone, Copy)]
 pub struct Places {
     pub count: usize,
@@ -144,7 +138,7 @@ impl Places {
     {
         Places {
             count: 0,
-            places: [Place::NONE; 256],
+            places: [Place::default(); 256],
         }
     }
 
@@ -158,7 +152,8 @@ impl Places {
     }
 
     // The same in place of these: no array is made or copied. The sides are read from
-    // the list's arrays: `channel(k)` would read the shifts too.
+    // the list's arrays: `channel(k)` would read the shifts too. The loop of `starts`
+    // again, which reads the sides of places that are made only here.
     pub fn reset(&mut self, list: &ChannelList)
         ensures { Spec.places_in self.new ≡ Spec.places_from 0 (channels list.now) }
     {
@@ -184,7 +179,7 @@ impl Places {
         if k < ChannelList::MAX_CHANNELS {
             self.places[k]
         } else {
-            Place::NONE
+            Place::default()
         }
     }
 
