@@ -22,7 +22,8 @@ use places::{Place, Places, Slot};
 use plan::{Form, Steps};
 use tile::Sides;
 
-// The sides of a place as those of a tile.
+// The sides of a place as those of a tile: no `From`, since both types are of other
+// crates.
 fn sides(place: Place) -> Sides
     ensures { result ≡ sides_of place }
 {
@@ -132,19 +133,29 @@ fn make_channel(
 }
 
 // Where the channels of a list lie while its steps are taken back: as many of the array
-// as there are places, in fixed memory and no heap.
+// as there are places. An `ArrayVec` would have a length of its own, which each clause
+// would have to say is the count of the places.
 #[derive(Drop)]
 struct Sources {
     entries: [Source; 256],
 }
 
 impl Sources {
-    // All in the pyramid, one after the other.
-    fn lay(places: &Places) -> Self
-        ensures { Lying places.now result }
-    {
+    // All at the pyramid's start.
+    fn new() -> Self {
         Sources {
-            entries: places.starts().map(Source::Pyramid),
+            entries: [Source::Pyramid(0); 256],
+        }
+    }
+
+    // All in the pyramid, one after the other; by `map` of the whole array a rebuild of
+    // 64 by 64 takes a tenth more instructions.
+    fn lay(&mut self, places: &Places)
+        ensures { Lying places.now self.new }
+    {
+        let starts = places.starts();
+        for k in 0..places.len() {
+            self.entries[k] = Source::Pyramid(starts[k]);
         }
     }
 
@@ -247,7 +258,8 @@ fn run(list: &ChannelList, steps: &Steps, pyramid: &[i32], picture: &mut [i32], 
     let count = steps.len();
     let mut places = Places::empty();
     take_steps(&mut places, list, steps, count);
-    let mut sources = Sources::lay(&places);
+    let mut sources = Sources::new();
+    sources.lay(&places);
     for m in (0..count).rev() {
         take_steps(&mut places, list, steps, m);
         take_back(&places, steps.step(m), &mut sources, pyramid, picture, work);

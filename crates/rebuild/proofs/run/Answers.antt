@@ -19,7 +19,7 @@ loop-m-init c =
     let p = c.requires in
     let n = c.len-count.ensures in (
       rw n
-          (back_none a.list.now a.steps.now a.pyramid.now p.0 c.take_steps.new.places c.lay-sources.result (rw n at c.take_steps.ensures) c.lay-sources.ensures a.picture.now a.work.now p.1 p.2),
+          (back_none a.list.now a.steps.now a.pyramid.now p.0 c.take_steps.new.places c.lay.new.self (rw n at c.take_steps.ensures) c.lay.ensures a.picture.now a.work.now p.1 p.2),
       c.take_steps.ensures,
     )
 

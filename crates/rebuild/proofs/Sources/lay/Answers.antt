@@ -1,4 +1,4 @@
--- `lay` meets its contract: each source is made of the start at its index. Assumes nothing.
+-- `lay` meets its contract: the first k lie at their starts in the pyramid. Assumes nothing.
 use mathlib.Core.Path.{ap, ◌∙◌}
 use native.Mathlib.Omega.{arith}
 use Rattle.list.specs.Lists.{max_channels}
@@ -9,6 +9,5 @@ use Rattle.rebuild.proofs.Sources.lay.Goals as goal
 
 pub returns : goal.returns
 returns c j h =
-    let called = (c.map.ensures.items.at j 0 (Pyramid 0) (omega arith)).2 in
-    called.met
-    ∙ ap Pyramid (rw c.starts.ensures (padded_at max_channels (starts_from 0 (areas_in c.args.places.now)) j (omega arith)))
+    c.loop-k.invariant j (omega arith)
+    ∙ ap Pyramid (rw c.starts-starts.ensures (padded_at max_channels (starts_from 0 (areas_in c.args.places.now)) j (omega arith)))
