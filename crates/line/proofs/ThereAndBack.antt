@@ -40,14 +40,15 @@ module _ (h : Bool) (lines n : ℕ) (xs : List ℤ) where
   unfolding residuals_of
   residuals_at_lem = entry_at h lines (residual_count n) (λ k i. residual_at (line_in h lines n xs k) n i)
 
+-- a line's averages and residuals are as many as its samples
+pub all_samples : (n : ℕ) → average_count n + residual_count n ≡ n
+all_samples n = omega arith
+
 -- ---- there and back
 module _ (h : Bool) (lines n : ℕ) (xs : List ℤ) (long : length xs ≡ lines * n) (f : Samples xs) where
   -- the squeeze of the writer's averages and residuals
   abbrev pub squeezed : Squeeze
   squeezed = squeeze h lines (average_count n) (residual_count n) (averages_of h lines n xs) (residuals_of h lines n xs) [] []
-
-  all_samples : average_count n + residual_count n ≡ n
-  all_samples = omega arith
 
   line_sample : (k : ℕ) → k < lines → (i : ℕ) → i < n → Sample (line_in h lines n xs k i)
   line_sample k hk i hi = at_place h lines n Sample xs long f k i hk hi
@@ -79,8 +80,8 @@ module _ (h : Bool) (lines n : ℕ) (xs : List ℤ) (long : length xs ≡ lines 
   pub rebuilt : uncut squeezed ≡ xs
   unfolding uncut output_at
   rebuilt =
-      sym (is_entries h lines (size squeezed) (λ k i. sample (line_of squeezed k) i) xs (rw all_samples long)
-      (λ k i hk hi. let l : i < n = omega arith in rw all_samples (sym (rebuilt_at k i hk l))))
+      sym (is_entries h lines (size squeezed) (λ k i. sample (line_of squeezed k) i) xs (rw (all_samples n) long)
+      (λ k i hk hi. let l : i < n = omega arith in rw (all_samples n) (sym (rebuilt_at k i hk l))))
 
 -- ---- lines that agree on their samples have the same averages and residuals
 module _ (x y : ℕ → ℤ) (n : ℕ) (e : (i : ℕ) → i < n → x i ≡ y i) where

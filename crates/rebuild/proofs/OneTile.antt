@@ -13,13 +13,14 @@ use Rattle.channel.specs.Channel.{samples, is_meta}
 use Rattle.list.specs.Lists.{average, residual, raised}
 use Rattle.channel.proofs.Sides.{fit_sides}
 use Rattle.line.specs.Forward.{average_count, residual_count}
+use Rattle.line.proofs.ThereAndBack.{all_samples}
 use Rattle.places.specs.declared.Place.{Place}
 use Rattle.places.specs.Places.{bare, area, average_place, residual_place}
 use Rattle.tile.specs.declared.Sides.{Sides}
 use Rattle.tile.specs.Call.{sides, call_on, after}
 use Rattle.tile.proofs.Accepted.{Arguments, accepted_after}
 use Rattle.runs.specs.Runs.{lines_of, size_of, channel_back}
-use Rattle.runs.proofs.OneChannel.{samples_by, all_along, average_samples, residual_samples}
+use Rattle.runs.proofs.OneChannel.{samples_by, average_samples, residual_samples}
 use Rattle.rebuild.specs.Run.{sides_of, ChannelFits}
 
 -- a channel without a side above n
@@ -41,7 +42,7 @@ module _ (h : Bool) (c : Channel) (n : ℕ) (w : c.width ≤ n) (t : c.height �
 module _ (h : Bool) (c : Channel) where
   -- the sides of the channel are its lines by averages and residuals
   channel_sides : record { width = c.width; height = c.height } ≡ sides h (lines_of h c) (average_count (size_of h c) + residual_count (size_of h c))
-  channel_sides = rw (all_along (size_of h c)) (by h)
+  channel_sides = rw (all_samples (size_of h c)) (by h)
     where
       by : (h : Bool) → record { width = c.width; height = c.height } ≡ sides h (lines_of h c) (size_of h c)
       by true = refl
@@ -79,7 +80,7 @@ module _ (h : Bool) (p : Place) (avg res out : List ℤ) (f : ChannelFits h p av
       let s = fit_sides c f.sides in
       let l = lines_small h c max_side s.0 s.1 in
       let z = size_small h c max_side s.0 s.1 in
-      let whole = all_along (size_of h c) in
+      let whole = all_samples (size_of h c) in
       let area : lines_of h c * (average_count (size_of h c) + residual_count (size_of h c)) ≡ area p = rw whole (sym (samples_by h c) ∙ bare_samples p) in
       record {
         low = omega arith;

@@ -20,13 +20,14 @@ use Rattle.line.specs.Plain.{AllInDomain}
 use Rattle.line.proofs.Places.{is_entries}
 use Rattle.line.proofs.Outputs.{uncut_length}
 use Rattle.line.proofs.Plain.{uncut_standard}
+use Rattle.line.proofs.ThereAndBack.{all_samples}
 use Rattle.runs.specs.Parts.{parts}
 use Rattle.runs.specs.Runs.{lines_of, size_of, channel_back, all_back_by, residual_parts, back_parts, step_back, is_taken, layout, rebuilt}
 use Rattle.runs.specs.Claim.{Fills}
 use Rattle.runs.specs.Unbounded.{standard_back, standard_step, standard_run, RangeInDomain, StepInDomain, RunInDomain}
 use Rattle.runs.proofs.Taken.{by_taken, taken_inside}
 use Rattle.runs.proofs.Shapes.{Shaped, parts_shaped, parts_samples}
-use Rattle.runs.proofs.OneChannel.{all_along, average_samples, residual_samples}
+use Rattle.runs.proofs.OneChannel.{average_samples, residual_samples}
 use Rattle.runs.proofs.OneStep.{step_shapes}
 use Rattle.runs.proofs.Whole.{rebuilt_fills}
 
@@ -49,8 +50,8 @@ module _ (h : Bool) (c : Channel) (avg res : List ℤ) (la : length avg ≡ samp
   channel_standard =
       let n = size_of h c in
       let q = squeeze h (lines_of h c) (average_count n) (residual_count n) avg res [] [] in
-      is_entries h (lines_of h c) n _ (uncut q) (uncut_length q ∙ rw (all_along n))
-      (λ k i hk hi. rw (all_along n) at (uncut_standard q fitting refl refl (record { avg = da; res = dr; out = dm }) k i hk (rw (all_along n) hi)))
+      is_entries h (lines_of h c) n _ (uncut q) (uncut_length q ∙ rw (all_samples n))
+      (λ k i hk hi. rw (all_samples n) at (uncut_standard q fitting refl refl (record { avg = da; res = dr; out = dm }) k i hk (rw (all_samples n) hi)))
 
 -- ---- the channels of a range
 range_standard : (h : Bool) (cs : List Channel) (avgs ress : List (List ℤ)) → Shaped (map (average h) cs) avgs → Shaped (map (residual h) cs) ress

@@ -3,8 +3,7 @@
 use mathlib.Core.Path.{◌≡◌, refl, sym, ◌∙◌}
 use mathlib.Core.Bool.{Bool, true, false}
 use mathlib.Core.List.{List, [], ◌∷◌}
-use Prim.Native.Nat.{ℕ, ◌+◌, ◌*◌}
-use native.Mathlib.Omega.{arith}
+use Prim.Native.Nat.{ℕ, ◌*◌}
 use native.Mathlib.Nat.{mul_comm}
 use lib.IntN.{ℤ}
 use lib.ListN.{length}
@@ -23,6 +22,7 @@ use Rattle.line.proofs.Sampled as Sampled
 use Rattle.line.proofs.Sampled.{uncut_samples}
 use Rattle.line.proofs.ThereAndBack as Lines
 use Rattle.line.specs.Forward.{Samples}
+use Rattle.line.proofs.ThereAndBack.{all_samples}
 use Rattle.runs.specs.Runs.{lines_of, size_of, channel_back, channel_averages, channel_residuals, all_back, each}
 use Rattle.runs.proofs.Shapes.{Shaped, AllSamples}
 
@@ -46,14 +46,11 @@ unfolding Lists.residual
 residual_samples h c = raised_samples h (sided rest h c) ∙ sided_samples rest h c
 
 -- ---- one channel
-pub all_along : (n : ℕ) → average_count n + residual_count n ≡ n
-all_along n = omega arith
-
 pub back_length : (h : Bool) (c : Channel) (avg res : List ℤ) → length (channel_back h c avg res) ≡ samples c
 unfolding channel_back
 back_length h c avg res =
     uncut_length (squeeze h (lines_of h c) (average_count (size_of h c)) (residual_count (size_of h c)) avg res [] [])
-    ∙ rw (all_along (size_of h c)) (sym (samples_by h c))
+    ∙ rw (all_samples (size_of h c)) (sym (samples_by h c))
 
 pub averages_length : (h : Bool) (c : Channel) (xs : List ℤ) → length (channel_averages h c xs) ≡ samples (average h c)
 unfolding channel_averages
