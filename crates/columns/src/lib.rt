@@ -58,7 +58,8 @@ fn store(out: &mut [i32], at: usize, b: [i32; 8])
 // Two rows of output at `to` by eights, with the row before them at `from`;
 // how many columns were done. The slices of a pair of rows come one by one, since
 // a struct of them is made in memory for each pair: columns of 16 samples, 16 of
-// them, took 6% more instructions with it and 64 of 64 1.8%.
+// them, took 6% more instructions with it and 64 of 64 1.8% (no call slower than
+// before).
 fn columns_by_eight(
     avg: &[i32],
     res: &[i32],

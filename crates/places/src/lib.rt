@@ -152,7 +152,7 @@ impl Places {
     }
 
     // The same in place of these: no array is made or copied. The sides are read from
-    // the list's arrays: `channel(k)` would read the shifts too. The loop of `starts`
+    // the list's arrays, which is no longer than by `channel(k)`. The loop of `starts`
     // again, which reads the sides of places that are made only here.
     pub fn reset(&mut self, list: &ChannelList)
         ensures { Spec.places_in self.new ≡ Spec.places_from 0 (channels list.now) }
@@ -176,11 +176,7 @@ impl Places {
     pub fn at(&self, k: usize) -> Place
         ensures { result ≡ Spec.place_at self.now k }
     {
-        if k < ChannelList::MAX_CHANNELS {
-            self.places[k]
-        } else {
-            Place::default()
-        }
+        self.places.get(k).copied().unwrap_or_default()
     }
 
     // How many places are meant.
