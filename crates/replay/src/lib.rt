@@ -6,14 +6,16 @@
 ghost use Rattle.replay.specs.Taken.{TakesWord, TakesCase};
 ghost use Rattle.replay.specs.Cases.{cases_of};
 ghost use Rattle.std.specs.Fn.{FnReturnsAt};
-ghost use Rattle.std.specs.Prelude.{◌≡◌, ℕ, ◌<◌, ◌≤◌, ◌/◌, Bool, List, length, count_by, IfOk, IfSome};
+ghost use Rattle.std.specs.Prelude.{◌≡◌, ◌⊎◌, ℕ, ◌<◌, ◌≤◌, ◌/◌, Bool, List, length, count_by, IfOk, IfSome, IfNone};
+ghost use Rattle.std.specs.Io.KnownBytes.{IsAtEnd};
 
 use std::io;
 use std::io::Read;
 
 // The next number of the input; none where its four bytes are not whole.
 pub fn read_word<R: Read>(input: &mut R) -> io::Result<Option<u32>>
-    ensures { IfOk result (λ word. IfSome word (λ n. TakesWord (R.remaining input.old) (R.remaining input.new) n)) }
+    ensures taken { IfOk result (λ word. IfSome word (λ n. TakesWord (R.remaining input.old) (R.remaining input.new) n)) }
+    ensures none { IfOk result (λ word. IfNone word (IsAtEnd (R.remaining input.new))) }
 {
     let mut bytes = [0u8; 4];
     if reading::read_full(input, &mut bytes)? < 4 {
@@ -27,6 +29,7 @@ pub fn read_word<R: Read>(input: &mut R) -> io::Result<Option<u32>>
 pub fn read_case<'s, R: Read>(input: &mut R, space: &'s mut [u8]) -> io::Result<Option<&'s [u8]>>
     ensures room { IfOk result (λ case. IfSome case (λ bytes. length bytes.now ≤ length space.old)) }
     ensures taken { IfOk result (λ case. IfSome case (λ bytes. TakesCase (R.remaining input.old) (R.remaining input.new) bytes.now)) }
+    ensures none { IfOk result (λ case. IfNone case (IsAtEnd (R.remaining input.new) ⊎ ((n : ℕ) × (length space.old < n) × TakesWord (R.remaining input.old) (R.remaining input.new) n))) }
 {
     let Some(n) = read_word(input)? else {
         return Ok(None);
