@@ -1,0 +1,4 @@
+pub mod Some
+pub mod Slices
+pub mod Bits
+pub mod Told
