@@ -1,1 +1,2 @@
 pub mod Inverse
+pub mod Six

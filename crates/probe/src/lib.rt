@@ -8,7 +8,7 @@ ghost use Rattle.std.specs.Prelude.{◌≡◌};
 ghost use Rattle.arith32.specs.Arith.{◌⊕◌};
 ghost use Rattle.probe.specs.Probe as Probe;
 
-use pair::Pair;
+use pair::{Pair, Rest};
 use tendency::Branching;
 
 #[unsafe(no_mangle)]
@@ -27,7 +27,7 @@ pub extern "C" fn probe_unsqueeze(avg: i32, res: i32, next: i32, prev: i32, out:
     if out.len() != 2 {
         return;
     }
-    let Pair { first, second } = pair::unsqueeze::<Branching>(avg, res, next, prev);
+    let Pair { first, second, .. } = pair::unsqueeze::<Branching>(avg, res, next, prev);
     out[0] = first;
     out[1] = second;
 }
@@ -43,7 +43,7 @@ pub extern "C" fn probe_squeeze(first: i32, second: i32, next: i32, prev: i32, o
     }
     let s = pair::squeeze(first, second);
     let average = s.average;
-    let residual = pair::residual::<Branching>(s.difference, average, next, prev);
+    let Rest { residual, .. } = pair::residual::<Branching>(s, next, prev);
     out[0] = average;
     out[1] = residual;
 }

@@ -14,11 +14,9 @@ returns c =
     let s = c.squeeze-s in
     let x = to_z-of_z c.ranges.first in
     let y = to_z-of_z c.ranges.second in
-    let a = back32 s.result.average (search rules) in
-    let d = back32 s.result.difference (search rules) in
-    let ea = rw (x, y) at s.ensures.0 in
-    let ed = rw (x, y) at s.ensures.1 in
+    let ea = rw (x, y) at s.ensures.2 in
+    let ed = rw (x, y) at s.ensures.3 in
     written c.args.out.now c.if-out-ne2.false
-    (a ∙ ea)
-    (back32 c.residual-residual.result c.residual-residual.type_inv
-    ∙ rw (a, d, ea, ed, to_z-of_z c.ranges.next, to_z-of_z c.ranges.prev) at c.residual-residual.ensures)
+    (back32 s.result.average (search rules) ∙ ea)
+    (back32 c.residual-residual.result.residual (search rules)
+    ∙ rw (ea, ed, to_z-of_z c.ranges.next, to_z-of_z c.ranges.prev) at c.residual-residual.ensures.0)
