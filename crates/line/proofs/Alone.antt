@@ -34,25 +34,25 @@ squeezed_line x size =
     record { avg = average_at x size; res = residual_at x size; averages = average_count size; residuals = residual_count size; next = []; prev = [] }
 
 module _ (x : ℕ → ℤ) (size : ℕ) (f : (i : ℕ) → i < size → Sample (x i)) where
-  next_is : (i : ℕ) → next_average (squeezed_line x size) i ≡ next_at x size i
+  pub next_is : (i : ℕ) → next_average (squeezed_line x size) i ≡ next_at x size i
   unfolding next_average next_at
   next_is i = refl
 
-  pair_first : (i : ℕ) → i + i + 1 < size
+  pub pair_first : (i : ℕ) → i + i + 1 < size
       → first (average_at x size i) (residual_at x size i) (next_at x size i) (prev_at x size i) ≡ x (i + i)
   unfolding residual_at
   pair_first i h =
       rw (average_pair x size i h)
       ((bijection (next_at x size i) (prev_at x size i)).first_back (x (i + i)) (x (i + i + 1)) (f (i + i) (omega arith)))
 
-  pair_second : (i : ℕ) → i + i + 1 < size
+  pub pair_second : (i : ℕ) → i + i + 1 < size
       → second (average_at x size i) (residual_at x size i) (next_at x size i) (prev_at x size i) ≡ x (i + i + 1)
   unfolding residual_at
   pair_second i h =
       rw (average_pair x size i h)
       ((bijection (next_at x size i) (prev_at x size i)).second_back (x (i + i)) (x (i + i + 1)) (f (i + i) (omega arith)) (f (i + i + 1) h))
 
-  before_is : (i : ℕ) → i + i ≤ size → before (squeezed_line x size) i ≡ prev_at x size i
+  pub before_is : (i : ℕ) → i + i ≤ size → before (squeezed_line x size) i ≡ prev_at x size i
   unfolding prev_at
   before_is zero h = before_first (squeezed_line x size)
   before_is (suc i) h =

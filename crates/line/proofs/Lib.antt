@@ -9,3 +9,7 @@ pub mod Plain
 pub mod Alone
 pub mod ThereAndBack
 pub mod Sampled
+pub mod LineMarks
+pub mod Marks
+pub mod WrittenMarks
+pub mod IntoMarks

@@ -66,7 +66,7 @@ uncut_samples s f =
     (position_at s.horizontal s.lines (size s) j))
 
 -- ---- forward
-average_sample : (x : ℕ → ℤ) (n i : ℕ) → ((j : ℕ) → Sample (x j)) → Sample (average_at x n i)
+pub average_sample : (x : ℕ → ℤ) (n i : ℕ) → ((j : ℕ) → Sample (x j)) → Sample (average_at x n i)
 unfolding average_at
 average_sample x n i f = by (cases_lt (i + i + 1) n)
   where

@@ -35,7 +35,7 @@ module _ (h : Bool) (lines n : ℕ) (xs : List ℤ) where
   unfolding averages_of
   averages_at = entry_at h lines (average_count n) (λ k i. average_at (line_in h lines n xs k) n i)
 
-  residuals_at_lem : (k i : ℕ) → k < lines → i < residual_count n
+  pub residuals_at_lem : (k i : ℕ) → k < lines → i < residual_count n
       → get_or (residuals_of h lines n xs) (place h lines (residual_count n) k i) (pos 0) ≡ residual_at (line_in h lines n xs k) n i
   unfolding residuals_of
   residuals_at_lem = entry_at h lines (residual_count n) (λ k i. residual_at (line_in h lines n xs k) n i)

@@ -5,3 +5,4 @@ pub mod Pairs
 pub mod Into
 pub mod Plain
 pub mod Squeezed
+pub mod Marks
