@@ -1,20 +1,24 @@
 -- A vertical squeeze from its parts: the averages copied where there is no pair; else the row before the first pair copied in, the ordinary pairs
 -- of rows and the end of the lines put together (proofs/Pairs.antt of the crate line). Assumes nothing.
-use mathlib.Core.Path.{◌≡◌, refl, sym, ◌∙◌}
-use mathlib.Core.Bool.{false}
+use mathlib.Core.Path.{◌≡◌, refl, sym, ap, ◌∙◌}
+use mathlib.Core.Bool.{Bool, false, ◌&&◌, ◌||◌}
 use mathlib.Core.List.{List}
-use Prim.Native.Nat.{ℕ, ◌+◌, ◌*◌, ◌<◌, ◌≤◌}
+use Prim.Native.Nat.{ℕ, ◌+◌, ◌*◌, ◌/◌, ◌%◌, ◌<◌, ◌≤◌}
 use native.Mathlib.Omega.{arith}
 use native.Mathlib.Nat.{mul-le-mul_right}
 use lib.IntN.{ℤ, pos}
-use lib.ListN.{length, get_or}
+use lib.ListN.{length, get_or, take, drop}
+use Rattle.range.specs.Range.{some_outside}
+use Rattle.range.proofs.Slices.{none_outside}
 use Rattle.line.specs.Line.{before}
 use Rattle.line.specs.Uncut.{Squeeze, squeeze, Fitting, line_of, uncut}
 use Rattle.line.specs.Pairs.{lines_of, Ordinary, Ended}
+use Rattle.line.proofs.Places.{line_room, position_room, place_back}
 use Rattle.line.proofs.Lines.{before_first}
 use Rattle.line.proofs.Pairs.{put_together, copied}
 use Rattle.columns.specs.Rows.{row_before}
 use Rattle.columns.proofs.OuterRows.{before_length, before_at}
+use Rattle.columns.proofs.Marks.{same_front, all_marked}
 use Rattle.columns.proofs.Pastes.{pasted, pasted_length, pasted_in}
 
 -- ordinary pairs of rows do not depend on how many rows there are
@@ -65,3 +69,25 @@ module _ {w m n : ℕ} {avg res next prev : List ℤ} (fitting : Fitting (squeez
           put_together fitting (pasted_length out w b before_row_room ∙ long)
           (λ k hk. pasted_in out w b before_row_room k (omega (arith, before_length prev avg w)) ∙ before_is k hk)
           (more_rows o) e
+
+  -- ---- the mark: the end of the lines leaves the rows before it
+  rows_kept : {prior : ℕ → ℤ} {mid new : List ℤ} {i : ℕ} → Ended s prior mid new i → take ((i + i) * w) new ≡ take ((i + i) * w) mid
+  rows_kept {prior} {mid} {new} {i} e =
+      same_front ((i + i) * w) new mid e.long
+      (λ q h.
+      let l : q < w * (i + i) = omega arith in
+      rw (place_back false w (i + i) q) at (e.kept (q % w) (q / w) (line_room false w (i + i) q l) (position_room false w (i + i) q l)))
+
+  pub rows_marked : (b : Bool) (i : ℕ) {prior : ℕ → ℤ} {mid new : List ℤ} {earlier last : Bool} → Ended s prior mid new i → new ≡ uncut s
+      → earlier ≡ (b && (some_outside (take (i * w) res) || some_outside (take ((i + i) * w) mid)))
+      → last ≡ (b && (some_outside (drop (i * w) res) || some_outside (drop ((i + i) * w) new)))
+      → (earlier || last) ≡ (b && (some_outside res || some_outside (uncut s)))
+  rows_marked b i {prior} {mid} {new} e u f g =
+      rw u at (all_marked b (i * w) ((i + i) * w) res mid new (rows_kept e) f g)
+
+  -- without a pair there is no residual
+  pub averages_marked : (b : Bool) {told : Bool} → n ≡ 0 → avg ≡ uncut s → told ≡ (b && some_outside avg)
+      → told ≡ (b && (some_outside res || some_outside (uncut s)))
+  averages_marked b none u e =
+      let l : length res ≡ 0 = fitting.res_length ∙ ap (λ (x : ℕ). w * x) none ∙ omega arith in
+      rw (none_outside res (λ i h. absurd (omega arith)), ← u) e

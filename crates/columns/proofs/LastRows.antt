@@ -1,7 +1,7 @@
 -- The last pair of rows of a vertical squeeze and its row of tails: that they lie inside, and that what `row_pair` and the copied tails make of
 -- them is the end of the lines (`Ended` of the crate line), whatever the previous line. Assumes nothing.
 use mathlib.Core.Path.{◌≡◌, refl, sym, ap, ◌∙◌}
-use mathlib.Core.Bool.{false}
+use mathlib.Core.Bool.{Bool, false, ◌&&◌, ◌||◌}
 use mathlib.Core.List.{List, []}
 use mathlib.Core.Logic.{◌⊎◌, inl, inr}
 use Prim.Native.Nat.{ℕ, ◌+◌, ◌-◌, ◌*◌, ◌<◌, ◌≤◌}
@@ -10,6 +10,7 @@ use native.Mathlib.Nat.{mul-le-mul_right}
 use lib.IntN.{ℤ, pos}
 use lib.ListN.{length, get_or, take, drop, length-drop}
 use lib.Seq.{get_or-drop}
+use Rattle.range.specs.Range.{some_outside}
 use Rattle.line.specs.Line.{next_average}
 use Rattle.line.specs.Uncut.{Squeeze, squeeze, Fitting, line_of}
 use Rattle.line.specs.Pairs.{inner, Ended}
@@ -21,6 +22,7 @@ use Rattle.columns.specs.Rows.{row_after, Apart, Columns}
 use Rattle.columns.proofs.OuterRows.{after_length, after_inside, after_last}
 use Rattle.columns.proofs.Pastes.{pasted, pasted_length, pasted_in, pasted_below}
 use Rattle.columns.proofs.RowPairs.{one_pair}
+use Rattle.columns.proofs.Marks.{last_marked, tails_marked}
 
 module _ {w m n : ℕ} {avg res next : List ℤ} (fitting : Fitting (squeeze false w m n avg res next [])) where
   -- there is a row of residuals, and no fewer of averages
@@ -78,6 +80,43 @@ module _ {w m n : ℕ} {avg res next : List ℤ} (fitting : Fitting (squeeze fal
           after_length avg next a w ∙ sym l,
           rw (l, q) p,
         )
+
+    -- ---- the mark: of the pair without a row of tails, and of both
+    row_long : length (take w (drop a avg)) ≡ w
+    row_long = let r = residuals_inside in part_length a w avg (omega arith)
+
+    module _ (b : Bool) (mid : List ℤ) {pair : Bool} (long : length mid ≡ w * (m + n))
+        (own : pair
+        ≡ (b
+        && (some_outside (take w (drop a res))
+        || some_outside (take (length (take w (drop a avg)) + length (take w (drop a avg))) (drop (a + a) mid))))) where
+      pub even_marked : m ≤ n → pair ≡ (b && (some_outside (drop (i * w) res) || some_outside (drop ((i + i) * w) mid)))
+      even_marked h =
+          let k = length (take w (drop a avg)) in
+          let l = row_long in
+          let e = row_at in
+          let x : i * w ≡ a = omega arith in
+          let y : (i + i) * w ≡ a + a = omega arith in
+          let z : m ≡ n = omega (arith, fitting.low) in
+          rw (x, y) (last_marked b a w (k + k) res mid ea (omega (arith, fitting.res_length, ap (λ (q : ℕ). w * q) z)) own)
+
+      pub odd_marked : {tails : Bool} → n < m → tails ≡ (b && some_outside (drop (length res) avg))
+          → (pair || tails)
+          ≡ (b
+          && (some_outside (drop (i * w) res)
+          || some_outside (drop ((i + i) * w) (pasted mid (length res + length res) (drop (length res) avg)))))
+      odd_marked h f =
+          let k = length (take w (drop a avg)) in
+          let tail = drop (length res) avg in
+          let l = row_long in
+          let t = tail_length h in
+          let e = row_at in
+          let x : i * w ≡ a = omega arith in
+          let y : (i + i) * w ≡ a + a = omega arith in
+          let z : length res + length res ≡ a + a + (k + k) = omega arith in
+          let u : m ≡ n + 1 = omega (arith, fitting.high) in
+          rw (x, y, z)
+          (tails_marked b a w (k + k) res mid tail ea (omega (arith, fitting.res_length, ap (λ (q : ℕ). w * q) u)) own f)
 
     module _ {from : ℕ} {old mid : List ℤ}
         (c : Columns (take w (drop a avg)) (take w (drop a res)) (row_after avg next a w) old mid from (a + a) 0 (length (take w (drop a avg))))

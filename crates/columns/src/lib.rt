@@ -1,20 +1,24 @@
 // Vertical: lines are columns, and the work goes row by row, so that memory is
 // read and written in order: eight neighbouring samples at a time as one block,
 // the rest singly. The rows of ordinary pairs first, then the last pair, whose
-// next row is chosen, and the row of tails. Total: where sizes or slices do not
-// fit the output stays as it was.
+// next row is chosen, and the row of tails. Where a call tells of samples outside the
+// plain range, it looks at each pair of rows after it is made. Total: where sizes or
+// slices do not fit the output stays as it was.
 #![tactic(auto)]
 
-ghost use Rattle.std.specs.Prelude.{◌≡◌, false, List, [], ◌⊎◌, ◌+◌, ◌-◌, ◌*◌, ◌<◌, ◌≤◌, ℤ, pos, length, get_or, take, drop};
+ghost use Rattle.std.specs.Prelude.{◌≡◌, false, ◌&&◌, ◌||◌, List, [], ◌⊎◌, ◌+◌, ◌-◌, ◌*◌, ◌<◌, ◌≤◌, ℤ, pos, length, get_or, take, drop};
 ghost use Rattle.std.proofs.Math.Seq.{paste};
+ghost use Rattle.range.specs.Range.{some_outside};
 ghost use Rattle.line.specs.Uncut.{squeeze, uncut, Fitting};
 ghost use Rattle.line.specs.Pairs.{lines_of, Ordinary, Ended};
 ghost use Rattle.line.specs.Into.{uncut_into};
+ghost use Rattle.line.specs.Marks.{marked_into};
 ghost use Rattle.line.specs.Squeezed.{squeeze_of};
 ghost use Rattle.columns.specs.Rows.{row_before, row_after, Apart, Columns};
 
 use line::Squeezed;
 use pair::Pair;
+use range::Marking;
 use tendency::Branching;
 
 // The row before the first: the previous output row or average row 0.
@@ -59,7 +63,9 @@ fn store(out: &mut [i32], at: usize, b: [i32; 8])
 // how many columns were done. The slices of a pair of rows come one by one, since
 // a struct of them is made in memory for each pair: columns of 16 samples, 16 of
 // them, took 6% more instructions with it and 64 of 64 1.8% (no call slower than
-// before).
+// before). Inlined, as the function below: called with a mark and without, the compiler
+// would make each a call for each pair of rows.
+#[inline(always)]
 fn columns_by_eight(
     avg: &[i32],
     res: &[i32],
@@ -90,6 +96,7 @@ fn columns_by_eight(
 
 // The columns from `start` on, one by one. No twin of the eights but for the loop's head:
 // what they read, call and write is of another type, and only the eights say how far they came.
+#[inline(always)]
 fn columns_singly(
     avg: &[i32],
     res: &[i32],
@@ -104,7 +111,7 @@ fn columns_singly(
 {
     let w = avg.len();
     for x in start..w {
-        let Pair { first, second } = pair::unsqueeze::<Branching>(
+        let Pair { first, second, .. } = pair::unsqueeze::<Branching>(
             avg[x],
             res[x],
             next[x],
@@ -115,40 +122,65 @@ fn columns_singly(
     }
 }
 
-fn row_pair(avg: &[i32], res: &[i32], next: &[i32], out: &mut [i32], from: usize, to: usize)
+// Two rows of output, and whether a residual or an output lies outside the range.
+fn row_pair<M: Marking>(
+    avg: &[i32],
+    res: &[i32],
+    next: &[i32],
+    out: &mut [i32],
+    from: usize,
+    to: usize,
+) -> bool
     requires { (length res.now ≡ length avg.now) × (length next.now ≡ length avg.now) × Apart from to (length avg.now) (length out.old) }
-    ensures { Columns avg.now res.now next.now out.old out.new from to 0 (length avg.now) }
+    ensures { Columns avg.now res.now next.now out.old out.new from to 0 (length avg.now) × (result ≡ (M.marks && (some_outside res.now || some_outside (take (length avg.now + length avg.now) (drop to out.new))))) }
 {
+    let w = avg.len();
     let x = columns_by_eight(avg, res, next, out, from, to);
     columns_singly(avg, res, next, out, from, to, x);
+    M::some_outside(res) | M::some_outside(&out[to..to + w + w])
+}
+
+// Pairs of rows that are done: where the row before the next pair stands, and whether
+// a residual or an output of theirs lies outside the range.
+#[derive(Clone, Copy)]
+struct Done {
+    from: usize,
+    outside: bool,
 }
 
 // The first `count` pairs of rows, all ordinary. The row before the first stands
-// where its second row will stand, and is read there before it is written. The
-// answer is where the row before the next pair stands.
-fn ordinary_pairs(avg: &[i32], res: &[i32], count: usize, w: usize, out: &mut [i32]) -> usize
+// where its second row will stand, and is read there before it is written.
+fn ordinary_pairs<M: Marking>(
+    avg: &[i32],
+    res: &[i32],
+    count: usize,
+    w: usize,
+    out: &mut [i32],
+) -> Done
     requires { (count * w + w ≤ length avg.now) × (count * w ≤ length res.now) × ((count + count) * w + w + w ≤ length out.old) }
-    ensures { Ordinary (lines_of false w (count + 1) count avg.now res.now) (λ k. get_or out.old (w + k) (pos 0)) (λ k. get_or out.new (result + k) (pos 0)) out.old out.new 0 count × Apart result ((count + count) * w) w (length out.old) }
+    ensures { Ordinary (lines_of false w (count + 1) count avg.now res.now) (λ k. get_or out.old (w + k) (pos 0)) (λ k. get_or out.new (result.from + k) (pos 0)) out.old out.new 0 count × Apart result.from ((count + count) * w) w (length out.old) × (result.outside ≡ (M.marks && (some_outside (take (count * w) res.now) || some_outside (take ((count + count) * w) out.new)))) }
 {
     // Places that go on by whole rows. As products of the turn's number they would
     // be no plainer, since the row before the first pair stands apart.
     let mut from = w;
     let mut to = 0;
     let mut a = 0;
+    let mut outside = false;
     for _ in 0..count {
         let e = a + w;
-        row_pair(&avg[a..e], &res[a..e], &avg[e..e + w], out, from, to);
+        outside |= row_pair::<M>(&avg[a..e], &res[a..e], &avg[e..e + w], out, from, to);
         from = to + w;
         to = from + w;
         a = e;
     }
-    from
+    Done { from, outside }
 }
 
-// The last pair of rows, with the row before it at `from`, and the row of tails.
-fn last_rows(s: &Squeezed<'_>, w: usize, from: usize, out: &mut [i32])
+// The last pair of rows, with the row before it at `from`, and the row of tails; whether
+// a sample of theirs lies outside the range. A tail is looked at where it is copied.
+fn last_rows<M: Marking>(s: &Squeezed<'_>, w: usize, from: usize, out: &mut [i32]) -> bool
     requires { Fitting (squeeze false w s.now.averages s.now.residuals s.now.avg.now s.now.res.now s.now.next.now []) × (0 < s.now.residuals) × (length out.old ≡ w * (s.now.averages + s.now.residuals)) × Apart from ((s.now.residuals - 1 + (s.now.residuals - 1)) * w) w (length out.old) }
-    ensures { (prev : List ℤ) → Ended (squeeze false w s.now.averages s.now.residuals s.now.avg.now s.now.res.now s.now.next.now prev) (λ k. get_or out.old (from + k) (pos 0)) out.old out.new (s.now.residuals - 1) }
+    ensures { ((prev : List ℤ) → Ended (squeeze false w s.now.averages s.now.residuals s.now.avg.now s.now.res.now s.now.next.now prev) (λ k. get_or out.old (from + k) (pos 0)) out.old out.new (s.now.residuals - 1)) × (result ≡ (M.marks && (some_outside (drop ((s.now.residuals - 1) * w) s.now.res.now) || some_outside (drop ((s.now.residuals - 1 + (s.now.residuals - 1)) * w) out.new)))) }
 {
     let avg = s.avg;
     let res = s.res;
@@ -156,7 +188,7 @@ fn last_rows(s: &Squeezed<'_>, w: usize, from: usize, out: &mut [i32])
     let n = s.residuals;
     let e = res.len();
     let a = e - w;
-    row_pair(
+    let outside = row_pair::<M>(
         &avg[a..e],
         &res[a..e],
         row_after(avg, s.next, a, w),
@@ -166,33 +198,38 @@ fn last_rows(s: &Squeezed<'_>, w: usize, from: usize, out: &mut [i32])
     );
     if n < m {
         out[e + e..].copy_from_slice(&avg[e..]);
+        outside | M::some_outside(&avg[e..])
+    } else {
+        outside
     }
 }
 
-// The columns of a squeeze whose sizes fit, with a sample or more.
-fn unsqueeze_fitting(s: &Squeezed<'_>, w: usize, out: &mut [i32])
+// The columns of a squeeze whose sizes fit, with a sample or more; whether a residual or
+// an output lies outside the range.
+fn unsqueeze_fitting<M: Marking>(s: &Squeezed<'_>, w: usize, out: &mut [i32]) -> bool
     requires { Fitting (squeeze_of false w s.now) × (0 < s.now.averages) × (0 < w) × (length out.old ≡ w * (s.now.averages + s.now.residuals)) }
-    ensures { out.new ≡ uncut (squeeze_of false w s.now) }
+    ensures { (out.new ≡ uncut (squeeze_of false w s.now)) × (result ≡ (M.marks && (some_outside s.now.res.now || some_outside (uncut (squeeze_of false w s.now))))) }
 {
     let n = s.residuals;
     if n == 0 {
         out.copy_from_slice(s.avg);
-        return;
+        return M::some_outside(s.avg);
     }
     out[w..w + w].copy_from_slice(row_before(s.prev, s.avg, w));
-    let from = ordinary_pairs(s.avg, s.res, n - 1, w, out);
-    last_rows(s, w, from, out);
+    let pairs = ordinary_pairs::<M>(s.avg, s.res, n - 1, w, out);
+    pairs.outside | last_rows::<M>(s, w, pairs.from, out)
 }
 
-// The output of a vertical squeeze of so many columns.
-pub fn unsqueeze_columns(s: &Squeezed<'_>, w: usize, out: &mut [i32])
-    ensures { out.new ≡ uncut_into (squeeze_of false w s.now) out.old }
+// The output of a vertical squeeze of so many columns, and its mark.
+pub fn unsqueeze_columns<M: Marking>(s: &Squeezed<'_>, w: usize, out: &mut [i32]) -> bool
+    ensures { (out.new ≡ uncut_into (squeeze_of false w s.now) out.old) × (result ≡ (M.marks && marked_into (squeeze_of false w s.now) out.old)) }
 {
     if !s.fits(w, out) {
-        return;
+        return false;
     }
     if out.len() == 0 {
-        return;
+        return false;
     }
-    unsqueeze_fitting(s, w, out);
+    M::read_samples(s.avg);
+    unsqueeze_fitting::<M>(s, w, out) | s.outers_outside::<M>()
 }

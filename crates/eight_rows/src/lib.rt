@@ -3,8 +3,10 @@
 // then the last pair, whose next averages are chosen, and the tails. One row goes
 // likewise (crate rows), but as single samples: the transposed stores and the parts of
 // residuals are for the vector code and the cache (horizontal no slower than the Rust),
-// and one function over both would be no plainer. Total: where sizes or slices do not
-// fit the output stays as it was.
+// and one function over both would be no plainer. Each function with a loop, and each
+// that calls one, is inlined: callers with a mark and without one would share it, and the
+// compiler would know no more that the slices lie apart (a tenth more time at 4,096
+// square). Total: where sizes or slices do not fit the output stays as it was.
 #![tactic(auto)]
 
 mod lanes;
@@ -90,6 +92,7 @@ impl EightRows<'_> {
     // The four ordinary pairs from pair p on, whose residuals are lanes q to q + 3 of
     // a part. The averages are read anew for each, which costs less than to keep
     // them from one call to the next.
+    #[inline(always)]
     fn four_pairs(
         &self,
         part: &[i32],
@@ -127,6 +130,7 @@ impl EightRows<'_> {
     // cache lines of eight rows fall together into one set of the cache, which holds
     // those of the averages or those of the residuals but not both, and each access
     // would miss.
+    #[inline(always)]
     fn part_pairs(&self, prior: [i32; 8], i: usize, out: &mut [i32]) -> [i32; 8]
         requires { (length out.old ≡ 8 * (self.now.squeezed.averages + self.now.squeezed.residuals)) × (i + 8 < self.now.squeezed.averages) × (i + 8 ≤ self.now.squeezed.residuals) }
         ensures { Ordinary (inner (squeeze_of true 8 self.now.squeezed)) (lane prior) (lane result) out.old out.new i 8 }
@@ -142,6 +146,7 @@ impl EightRows<'_> {
     }
 
     // The ordinary pairs from pair `from` up to pair `to`, one by one.
+    #[inline(always)]
     fn single_pairs(&self, prior: [i32; 8], from: usize, to: usize, out: &mut [i32]) -> [i32; 8]
         requires { (length out.old ≡ 8 * (self.now.squeezed.averages + self.now.squeezed.residuals)) × (from ≤ to) × (to < self.now.squeezed.averages) × (to ≤ self.now.squeezed.residuals) }
         ensures { Ordinary (inner (squeeze_of true 8 self.now.squeezed)) (lane prior) (lane result) out.old out.new from (to - from) }
@@ -165,6 +170,7 @@ impl EightRows<'_> {
     }
 
     // The ordinary pairs before pair `to`.
+    #[inline(always)]
     fn ordinary_pairs(&self, prior: [i32; 8], to: usize, out: &mut [i32]) -> [i32; 8]
         requires { (length out.old ≡ 8 * (self.now.squeezed.averages + self.now.squeezed.residuals)) × (to < self.now.squeezed.averages) × (to ≤ self.now.squeezed.residuals) }
         ensures { Ordinary (inner (squeeze_of true 8 self.now.squeezed)) (lane prior) (lane result) out.old out.new 0 to }
@@ -179,6 +185,7 @@ impl EightRows<'_> {
     }
 
     // The last pair, and the tails.
+    #[inline(always)]
     fn last_lanes(&self, prior: [i32; 8], out: &mut [i32])
         requires { ((length self.now.squeezed.next.now ≡ 0) ⊎ (length self.now.squeezed.next.now ≡ 8)) × (0 < self.now.squeezed.residuals) × (length out.old ≡ 8 * (self.now.squeezed.averages + self.now.squeezed.residuals)) }
         ensures { Ended (squeeze_of true 8 self.now.squeezed) (lane prior) out.old out.new (self.now.squeezed.residuals - 1) }
@@ -201,6 +208,7 @@ impl EightRows<'_> {
 }
 
 // Eight rows of a squeeze whose sizes fit, with an average or more in each.
+#[inline(always)]
 fn unsqueeze_fitting(s: &Squeezed<'_>, out: &mut [i32])
     requires { Fitting (squeeze_of true 8 s.now) × (0 < s.now.averages) × (length out.old ≡ 8 * (s.now.averages + s.now.residuals)) }
     ensures { out.new ≡ uncut (squeeze_of true 8 s.now) }
@@ -217,6 +225,7 @@ fn unsqueeze_fitting(s: &Squeezed<'_>, out: &mut [i32])
 }
 
 // The output of a horizontal squeeze of eight rows.
+#[inline(always)]
 pub fn unsqueeze_eight_rows(s: &Squeezed<'_>, out: &mut [i32])
     ensures { out.new ≡ uncut_into (squeeze_of true 8 s.now) out.old }
 {

@@ -76,6 +76,9 @@ module _ (lines size : ℕ) (new old : List ℤ) (ln : length new ≡ lines * si
   long : length (patch old new (from * size)) ≡ lines * size
   long = patch_length old new (from * size) room (omega arith) ∙ lo
 
+  pub rest_none : Down lines size (patch old new (from * size)) old old from
+  rest_none = down_none lines size (patch old new (from * size)) old long lo from h (patch_front old new (from * size) room)
+
   pub rest_more : (out part : List ℤ) (y c : ℕ) → from ≤ y → y + c ≤ lines → part ≡ take (c * size) (drop (y * size) new)
       → Down lines size (patch old new (from * size)) old out y
       → Down lines size (patch old new (from * size)) old (take (y * size) out ++ (part ++ drop (c * size) (drop (y * size) out))) (y + c)

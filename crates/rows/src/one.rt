@@ -50,7 +50,7 @@ impl OneRow<'_> {
         let s = &self.squeezed;
         let mut before = prior;
         for i in 0..to {
-            let Pair { first, second } = pair::unsqueeze::<Branching>(
+            let Pair { first, second, .. } = pair::unsqueeze::<Branching>(
                 s.avg[i],
                 s.res[i],
                 s.avg[i + 1],
@@ -71,7 +71,7 @@ impl OneRow<'_> {
         let s = &self.squeezed;
         let n = s.res.len();
         let i = n - 1;
-        let Pair { first, second } = pair::unsqueeze::<Branching>(
+        let Pair { first, second, .. } = pair::unsqueeze::<Branching>(
             s.avg[i],
             s.res[i],
             self.last_next(),
@@ -85,7 +85,8 @@ impl OneRow<'_> {
     }
 }
 
-// One row, of so many averages and residuals as its slices have.
+// One row, of so many averages and residuals as its slices have. Inlined, as eight are.
+#[inline(always)]
 pub(crate) fn one_row(s: &Squeezed<'_>, out: &mut [i32])
     requires { Fitting (squeeze true 1 (length s.now.avg.now) (length s.now.res.now) s.now.avg.now s.now.res.now s.now.next.now s.now.prev.now) × (0 < length s.now.avg.now) × (length out.old ≡ length s.now.avg.now + length s.now.res.now) }
     ensures { out.new ≡ uncut (squeeze true 1 (length s.now.avg.now) (length s.now.res.now) s.now.avg.now s.now.res.now s.now.next.now s.now.prev.now) }

@@ -12,7 +12,8 @@ use lib.IntN.{ℤ}
 use lib.ListN.{length}
 use Rattle.numbers.specs.Numbers.{max_side, max_samples}
 use Rattle.line.specs.Uncut.{squeeze, uncut}
-use Rattle.tile.specs.Call.{Call, sides, area, area_allowed, areas_allowed, sides_small, sides_fit, line_fits, sizes_fit, slices_fit, answer, squeeze_of, after}
+use Rattle.line.specs.Marks.{squeeze_marked}
+use Rattle.tile.specs.Call.{Call, sides, area, area_allowed, areas_allowed, sides_small, sides_fit, line_fits, sizes_fit, slices_fit, answer, squeeze_of, after, call_mark}
 use Rattle.tile.specs.Call as Spec
 use Rattle.line.proofs.Into.{is_outer}
 use Rattle.line.proofs.Lines.{lt_or_ge}
@@ -142,4 +143,9 @@ module _ (h : Bool) (lines a r : ℕ) (avg res next prev out : List ℤ) (f : Ar
   pub accepted_after : after (call_of h lines a r avg res next prev out) ≡ uncut (squeeze h lines a r avg res next prev)
   unfolding after
   accepted_after =
+      rw (eq-eqb (answer (call_of h lines a r avg res next prev out)) 0 accepted, squeeze_of_call h lines a r avg res next prev out)
+
+  pub accepted_mark : call_mark (call_of h lines a r avg res next prev out) ≡ squeeze_marked (squeeze h lines a r avg res next prev)
+  unfolding call_mark
+  accepted_mark =
       rw (eq-eqb (answer (call_of h lines a r avg res next prev out)) 0 accepted, squeeze_of_call h lines a r avg res next prev out)

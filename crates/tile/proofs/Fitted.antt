@@ -4,7 +4,7 @@ use mathlib.Core.Path.{◌≡◌, refl, sym, ap, ◌∙◌}
 use mathlib.Core.Bool.{Bool, true, false, cond, ◌&&◌, ◌||◌}
 use mathlib.Core.List.{List}
 use mathlib.Core.Logic.{◌⊎◌, inl, inr}
-use Prim.Native.Nat.{ℕ, suc, ◌+◌, ◌*◌, ◌≤◌}
+use Prim.Native.Nat.{ℕ, ◌+◌, ◌*◌, ◌≤◌}
 use native.Mathlib.Omega.{arith}
 use native.Mathlib.Nat.{mul_comm}
 use borrow.Author.Tests.{leb-true, eqb-true, eq-eqb, ne_eqb}
@@ -14,14 +14,19 @@ use lib.ListN.{length}
 use Rattle.numbers.specs.Numbers.{max_samples, refused_samples, refused_sizes, refused_length}
 use Rattle.line.specs.Uncut.{Fitting, uncut}
 use Rattle.line.specs.Into.{outer_fits, uncut_into}
+use Rattle.line.specs.Marks.{marked_into}
 use Rattle.line.proofs.Into.{and_true, outer_line, fitting_fits, into_fits}
 use Rattle.tile.specs.declared.Sides.{Sides}
-use Rattle.tile.specs.Call.{Call, area, area_allowed, areas_allowed, along, across, sides_small, sides_fit, line_fits, sizes_fit, slices_fit, answer, squeeze_on, squeeze_of, after}
+use Rattle.tile.specs.Call.{Call, area, area_allowed, areas_allowed, along, across, sides_small, sides_fit, line_fits, sizes_fit, slices_fit, answer, squeeze_on, squeeze_of, after, call_mark}
 
 -- ---- tests taken apart
 or_true : (a b : Bool) → a || b ≡ true → (a ≡ true) ⊎ (b ≡ true)
 or_true true b e = inl refl
 or_true false b e = inr e
+
+and_none : (a : Bool) → (a && false) ≡ false
+and_none true = refl
+and_none false = refl
 
 -- ---- the number that a call gets
 module _ (c : Call) where
@@ -45,8 +50,14 @@ module _ (c : Call) where
   unfolding after
   refused_after n = rw (ne_eqb (answer c) 0 n)
 
-  kept : (n : ℕ) → answer c ≡ suc n → (suc n ≡ answer c) × (c.out ≡ after c)
-  kept n e = (sym e, sym (refused_after (λ z. omega arith)))
+  pub refused_mark : (answer c ≡ 0 → ⊥) → call_mark c ≡ false
+  unfolding call_mark
+  refused_mark n = rw (ne_eqb (answer c) 0 n)
+
+  -- a call that is refused with the number of a refusal
+  pub refused : (marks : Bool) (n : ℕ) → (n ≡ 0 → ⊥) → n ≡ answer c → (n ≡ answer c) × (c.out ≡ after c) × (false ≡ (marks && call_mark c))
+  refused marks n s e =
+      (e, sym (refused_after (λ z. s (e ∙ z))), rw (refused_mark (λ z. s (e ∙ z))) (sym (and_none marks)))
 
   pub made : answer c ≡ 0 → after c ≡ uncut (squeeze_of c)
   unfolding after
@@ -155,8 +166,8 @@ module _ (c : Call) {p q s : Bool}
   unfolding areas_allowed
   areas b t = rw (← ea, ← er, ← eo) t
 
-  pub areas_refused : p && (q && s) ≡ false → (refused_samples ≡ answer c) × (c.out ≡ after c)
-  areas_refused t = kept c 4 (five c (areas false t))
+  pub areas_refused : p && (q && s) ≡ false → refused_samples ≡ answer c
+  areas_refused t = sym (five c (areas false t))
 
   module _ (yes : p && (q && s) ≡ true) {x : ℕ} {f n l : Bool} (ex : x ≡ across c.horizontal c.avg_sides)
       (ef : f ≡ sides_fit c.horizontal c.avg_sides c.res_sides c.out_sides) (en : n ≡ outer_fits x c.next) (el : l ≡ outer_fits x c.prev) where
@@ -166,18 +177,21 @@ module _ (c : Call) {p q s : Bool}
         let k = across c.horizontal c.avg_sides in
         rw (← same_test k c.next, ← same_test k c.prev, ← ef, ← ex, ← en, ← el) t
 
-    pub sizes_refused : f && (n && l) ≡ false → (refused_sizes ≡ answer c) × (c.out ≡ after c)
-    sizes_refused t = kept c 12 (thirteen c (areas true yes) (sizes false t))
+    pub sizes_refused : f && (n && l) ≡ false → refused_sizes ≡ answer c
+    sizes_refused t = sym (thirteen c (areas true yes) (sizes false t))
 
     module _ (also : f && (n && l) ≡ true) where
-      pub slices_refused : slices_fit c ≡ false → (refused_length ≡ answer c) × (c.out ≡ after c)
-      slices_refused t = kept c 11 (twelve c (areas true yes) (sizes true also) t)
+      pub slices_refused : slices_fit c ≡ false → refused_length ≡ answer c
+      slices_refused t = sym (twelve c (areas true yes) (sizes true also) t)
 
-      -- a call that is accepted, with what the squeeze then made
-      pub accepted_made : slices_fit c ≡ true → (r : List ℤ) → r ≡ uncut_into (squeeze_of c) c.out → (0 ≡ answer c) × (r ≡ after c)
-      unfolding squeeze_of
-      accepted_made t r e =
-          let w = sizes true also in
-          let z = none c (areas true yes) w t in
-          let room = fitting_fits _ _ _ c.avg c.res c.next c.prev c.out (fitting c w t) (out_length c w t) in
-          (sym z, e ∙ sym (made c z ∙ into_fits (squeeze_of c) c.out room))
+      pub none_refused : slices_fit c ≡ true → 0 ≡ answer c
+      none_refused t = sym (none c (areas true yes) (sizes true also) t)
+
+-- ---- a call that is accepted, with what the squeeze then made and told
+pub accepted_made : (c : Call) (marks m : Bool) (r : List ℤ) → 0 ≡ answer c → r ≡ uncut_into (squeeze_of c) c.out
+    → m ≡ (marks && marked_into (squeeze_of c) c.out) → (0 ≡ answer c) × (r ≡ after c) × (m ≡ (marks && call_mark c))
+unfolding squeeze_of call_mark marked_into
+accepted_made c marks m r e er em =
+    let w = fits c (sym e) in
+    let room = fitting_fits _ _ _ c.avg c.res c.next c.prev c.out (fitting c w.0 w.1) (out_length c w.0 w.1) in
+    (e, er ∙ sym (made c (sym e) ∙ into_fits (squeeze_of c) c.out room), em ∙ rw (room, eq-eqb (answer c) 0 (sym e)) refl)

@@ -1,8 +1,10 @@
--- The tile call (document 01, "Tiles", questions 5, 12 and 14): what it answers, and what the output slice then holds. Definitions only.
-use Rattle.std.specs.Prelude.{Bool, cond, ◌&&◌, ◌||◌, not, List, ℕ, ◌+◌, ◌*◌, eqb, leb, ℤ, length}
+-- The tile call (document 01, "Tiles", questions 5, 12 and 14): what it answers, what the output slice then holds, and what it tells of the plain
+-- range. Definitions only.
+use Rattle.std.specs.Prelude.{Bool, false, cond, ◌&&◌, ◌||◌, not, List, ℕ, ◌+◌, ◌*◌, eqb, leb, ℤ, length}
 use Rattle.numbers.specs.Numbers.{max_side, max_samples, refused_samples, refused_sizes, refused_length}
 use Rattle.tile.specs.declared.Sides.{Sides}
 use Rattle.line.specs.Uncut.{Squeeze, squeeze, uncut}
+use Rattle.line.specs.Marks.{squeeze_marked}
 
 -- the arguments of a call: the direction, the sizes of average, residual and output, and the five slices
 pub record Call : Type 0 where
@@ -79,6 +81,10 @@ squeeze_of c = squeeze_on c.horizontal c.avg_sides c.res_sides c.avg c.res c.nex
 -- the output slice afterwards: the uncut squeeze's output, or as it was where the call is refused
 unfoldable pub after : Call → List ℤ
 after c = cond (eqb (answer c) 0) (uncut (squeeze_of c)) c.out
+
+-- the mark (document 02, A.3), "for all pairs under them and for the averages that a step copies"; a refused call has none
+unfoldable pub call_mark : Call → Bool
+call_mark c = cond (eqb (answer c) 0) (squeeze_marked (squeeze_of c)) false
 
 -- the call of a direction, the sizes of average, residual and output, and the slices
 abbrev pub call_on : Bool → Sides → Sides → Sides → List ℤ → List ℤ → List ℤ → List ℤ → List ℤ → Call

@@ -1,16 +1,20 @@
 // The tile call (the Rust's `do_hsqueeze_step` and `do_vsqueeze_step`): a rectangle of
 // samples from its averages and residuals, with a neighbour line on either side or
-// none. Total: the areas, the sizes and the slices' lengths are judged in that order,
-// and after a refusal the output slice is untouched.
+// none, and whether it leaves the plain range. Total: the areas, the sizes and the
+// slices' lengths are judged in that order, and after a refusal the output slice is
+// untouched.
 #![tactic(auto)]
 
-ghost use Rattle.std.specs.Prelude.{◌≡◌};
+ghost use Rattle.std.specs.Prelude.{◌≡◌, ◌&&◌};
+ghost use Rattle.range.specs.Range.{mark_of};
 ghost use Rattle.line.specs.Into.{uncut_into};
+ghost use Rattle.line.specs.Marks.{marked_into};
 ghost use Rattle.numbers.specs.Numbers.{answer_of};
 ghost use Rattle.tile.specs.Call as Call;
 
 use line::Squeezed;
 use numbers::{MAX_SAMPLES, MAX_SIDE, Refusal};
+use range::Marking;
 
 // Width and height of a rectangle.
 #[derive(Clone, Copy, PartialEq, Eq, Debug)]
@@ -66,8 +70,8 @@ fn sides_fit(horizontal: bool, a: Sides, r: Sides, o: Sides) -> bool
             & ((r.across(horizontal) == crossing) & (o.across(horizontal) == crossing)))
 }
 
-// The squeeze's output from its averages and residuals, where sizes fit.
-fn unsqueeze<'a>(
+// The squeeze's output from its averages and residuals, and its mark, where sizes fit.
+fn unsqueeze<'a, M: Marking>(
     horizontal: bool,
     a: Sides,
     r: Sides,
@@ -76,8 +80,8 @@ fn unsqueeze<'a>(
     next: &'a [i32],
     prev: &'a [i32],
     out: &mut [i32],
-)
-    ensures { out.new ≡ uncut_into (Call.squeeze_on horizontal a r avg.now res.now next.now prev.now) out.old }
+) -> bool
+    ensures { (out.new ≡ uncut_into (Call.squeeze_on horizontal a r avg.now res.now next.now prev.now) out.old) × (result ≡ (M.marks && marked_into (Call.squeeze_on horizontal a r avg.now res.now next.now prev.now) out.old)) }
 {
     let s = Squeezed {
         averages: a.along(horizontal),
@@ -89,28 +93,26 @@ fn unsqueeze<'a>(
     };
     let lines = a.across(horizontal);
     if horizontal {
-        rows::unsqueeze_rows(&s, lines, out);
+        rows::unsqueeze_rows::<M>(&s, lines, out)
     } else {
-        columns::unsqueeze_columns(&s, lines, out);
+        columns::unsqueeze_columns::<M>(&s, lines, out)
     }
 }
 
-// A tile of averages, residuals and samples of output, each with the sides of its
-// rectangle. `next` and `prev` are the next average line and the previous output
-// line, or empty. Sides and slices come apart, as the C function has them.
+// The questions of a call in their order.
 #[tactic(auto, using(crate::proofs::Fitted::area_small))]
-pub fn squeeze_tile<'a>(
+pub fn judge_tile(
     horizontal: bool,
     avgs: Sides,
     ress: Sides,
     outs: Sides,
-    avg: &'a [i32],
+    avg: &[i32],
     res: &[i32],
-    next: &'a [i32],
-    prev: &'a [i32],
-    out: &mut [i32],
+    next: &[i32],
+    prev: &[i32],
+    out: &[i32],
 ) -> Result<(), Refusal>
-    ensures { (answer_of result ≡ Call.answer (Call.call_on horizontal avgs ress outs avg.now res.now next.now prev.now out.old)) × (out.new ≡ Call.after (Call.call_on horizontal avgs ress outs avg.now res.now next.now prev.now out.old)) }
+    ensures { answer_of result ≡ Call.answer (Call.call_on horizontal avgs ress outs avg.now res.now next.now prev.now out.now) }
 {
     if !(avgs.area_allowed() & (ress.area_allowed() & outs.area_allowed())) {
         return Err(Refusal::Samples);
@@ -126,6 +128,25 @@ pub fn squeeze_tile<'a>(
     {
         return Err(Refusal::Length);
     }
-    unsqueeze(horizontal, avgs, ress, avg, res, next, prev, out);
     Ok(())
+}
+
+// A tile of averages, residuals and samples of output, each with the sides of its
+// rectangle. `next` and `prev` are the next average line and the previous output
+// line, or empty. Sides and slices come apart, as the C function has them.
+pub fn squeeze_tile<'a, M: Marking>(
+    horizontal: bool,
+    avgs: Sides,
+    ress: Sides,
+    outs: Sides,
+    avg: &'a [i32],
+    res: &[i32],
+    next: &'a [i32],
+    prev: &'a [i32],
+    out: &mut [i32],
+) -> Result<bool, Refusal>
+    ensures { (answer_of result ≡ Call.answer (Call.call_on horizontal avgs ress outs avg.now res.now next.now prev.now out.old)) × (out.new ≡ Call.after (Call.call_on horizontal avgs ress outs avg.now res.now next.now prev.now out.old)) × (mark_of result ≡ (M.marks && Call.call_mark (Call.call_on horizontal avgs ress outs avg.now res.now next.now prev.now out.old))) }
+{
+    judge_tile(horizontal, avgs, ress, outs, avg, res, next, prev, out)?;
+    Ok(unsqueeze::<M>(horizontal, avgs, ress, avg, res, next, prev, out))
 }

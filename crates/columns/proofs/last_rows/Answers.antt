@@ -10,7 +10,7 @@ use lib.ListN.{length, drop, length-drop}
 use Rattle.line.specs.Uncut.{squeeze, Fitting}
 use Rattle.columns.proofs.OuterRows.{part_rest}
 use Rattle.columns.proofs.Pastes.{put_in}
-use Rattle.columns.proofs.LastRows.{tail_left, last_row_inside, residuals_inside, after_room, last_asked, ended_even, ended_odd}
+use Rattle.columns.proofs.LastRows.{tail_left, last_row_inside, residuals_inside, after_room, last_asked, even_marked, odd_marked, ended_even, ended_odd}
 use Rattle.columns.proofs.last_rows.Goals as goal
 
 -- there is a last pair, whose rows end where the residuals end
@@ -22,40 +22,54 @@ placed : {w m n : ℕ} {avg res next : List ℤ} → Fitting (squeeze false w m 
 placed f h = let r = last_row_inside f h in (omega arith, omega arith)
 
 pub row_after-requires : goal.row_after-requires
-row_after-requires c =
+row_after-requires g c =
     let a = c.args in
     let f = c.requires.0 in
     let p = placed f c.requires.1 in
     (omega (arith, p.0, residuals_inside f), after_room f (length a.s.now.res.now - a.w) p.0, f.next_length)
 
-pub row_pair-requires : goal.row_pair-requires
-row_pair-requires c =
+pub row_pair-outside-requires : goal.row_pair-outside-requires
+row_pair-outside-requires g c =
     let s = c.args.s.now in
     let p = placed c.requires.0 c.requires.1 in
     rw (p.1, c.row_after.ensures)
     (last_asked c.requires.0 (s.residuals - 1) (length s.res.now - c.args.w) (counted s.residuals c.requires.1) p.0 c.requires.3)
 
 pub copy_from_slice-requires : goal.copy_from_slice-requires
-copy_from_slice-requires c =
+copy_from_slice-requires g c =
     let s = c.args.s.now in
     let r = length s.res.now in
-    let mid = c.row_pair.new.out in
+    let mid = c.row_pair-outside.new.out in
     rw (part_rest mid (r + r), part_rest s.avg.now r)
-    (length-drop (r + r) mid ∙ tail_left c.requires.0 c.if-n-m.true (c.row_pair.ensures.long ∙ c.requires.2))
+    (length-drop (r + r) mid ∙ tail_left c.requires.0 c.if-n-m.true (c.row_pair-outside.ensures.0.long ∙ c.requires.2))
 
 pub returns-then-n-m : goal.returns-then-n-m
-returns-then-n-m c prev =
+returns-then-n-m g c =
     let s = c.args.s.now in
     let r = length s.res.now in
-    let p = placed c.requires.0 c.requires.1 in
-    let mid = c.row_pair.new.out in
-    let long = c.row_pair.ensures.long ∙ c.requires.2 in
-    rw (c.copy_from_slice.ensures.after, part_rest s.avg.now r, put_in mid (r + r) (length mid - (r + r)) (drop r s.avg.now) (tail_left c.requires.0 c.if-n-m.true long))
-    (ended_odd c.requires.0 (s.residuals - 1) (r - c.args.w) (counted s.residuals c.requires.1) p.0 (rw (p.1, c.row_after.ensures) at c.row_pair.ensures) prev c.if-n-m.true long)
+    let f = c.requires.0 in
+    let i = s.residuals - 1 in
+    let a = r - c.args.w in
+    let last = counted s.residuals c.requires.1 in
+    let p = placed f c.requires.1 in
+    let mid = c.row_pair-outside.new.out in
+    let long = c.row_pair-outside.ensures.0.long ∙ c.requires.2 in
+    let made = rw (p.1, c.row_after.ensures) at c.row_pair-outside.ensures in
+    rw (c.copy_from_slice.ensures.after, part_rest s.avg.now r, put_in mid (r + r) (length mid - (r + r)) (drop r s.avg.now) (tail_left f c.if-n-m.true long)) (
+      λ prev. ended_odd f i a last p.0 made.0 prev c.if-n-m.true long,
+      odd_marked f i a last p.0 g.M.Marking.marks _ long made.1 c.if-n-m.true (rw (part_rest s.avg.now r) at c.some_outside.ensures),
+    )
 
 pub returns-else-n-m : goal.returns-else-n-m
-returns-else-n-m c prev =
+returns-else-n-m g c =
     let s = c.args.s.now in
-    let p = placed c.requires.0 c.requires.1 in
-    ended_even c.requires.0 (s.residuals - 1) (length s.res.now - c.args.w) (counted s.residuals c.requires.1) p.0
-    (rw (p.1, c.row_after.ensures) at c.row_pair.ensures) prev c.if-n-m.false
+    let f = c.requires.0 in
+    let i = s.residuals - 1 in
+    let a = length s.res.now - c.args.w in
+    let last = counted s.residuals c.requires.1 in
+    let p = placed f c.requires.1 in
+    let long = c.row_pair-outside.ensures.0.long ∙ c.requires.2 in
+    let made = rw (p.1, c.row_after.ensures) at c.row_pair-outside.ensures in (
+      λ prev. ended_even f i a last p.0 made.0 prev c.if-n-m.false,
+      even_marked f i a last p.0 g.M.Marking.marks _ long made.1 c.if-n-m.false,
+    )

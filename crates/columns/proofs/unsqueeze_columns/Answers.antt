@@ -1,23 +1,43 @@
--- `unsqueeze_columns` meets its contract: where sizes fit it is the uncut squeeze, else the output stays (proofs/Into.antt of the crate line).
--- Assumes nothing.
+-- `unsqueeze_columns` meets its contract: where sizes fit it is the uncut squeeze and its mark, else the output stays and has none (proofs/Into.antt and
+-- proofs/IntoMarks.antt of the crate line). Assumes nothing.
+use mathlib.Core.Path.{◌∙◌}
 use mathlib.Core.Bool.{false}
+use Rattle.range.specs.Range.{some_outside}
+use Rattle.range.proofs.Told.{one_behind}
+use Rattle.line.specs.Uncut.{uncut}
+use Rattle.line.specs.Marks.{outers_outside}
 use Rattle.line.specs.Squeezed.{squeeze_of}
 use Rattle.line.proofs.Into.{fitted, some_averages, some_lines, into_fits, into_kept, into_none}
+use Rattle.line.proofs.IntoMarks.{marked_fits, marked_kept, marked_none}
 use Rattle.columns.proofs.unsqueeze_columns.Goals as goal
 
 pub returns-then-not-fits : goal.returns-then-not-fits
-returns-then-not-fits c = into_kept (squeeze_of false c.args.w c.args.s.now) c.args.out.now (rw c.fits.ensures at c.if-not-fits.true)
+returns-then-not-fits g c =
+    let s = squeeze_of false c.args.w c.args.s.now in
+    let out = c.args.out.now in
+    let e = rw c.fits.ensures at c.if-not-fits.true in
+    (into_kept s out e, marked_kept g.M.Marking.marks s out e)
 
 pub returns-then-out-eq0 : goal.returns-then-out-eq0
-returns-then-out-eq0 c = into_none (squeeze_of false c.args.w c.args.s.now) c.args.out.now c.if-out-eq0.true
+returns-then-out-eq0 g c =
+    let s = squeeze_of false c.args.w c.args.s.now in
+    let out = c.args.out.now in
+    (into_none s out c.if-out-eq0.true, marked_none g.M.Marking.marks s out c.if-out-eq0.true)
 
 pub unsqueeze_fitting-requires : goal.unsqueeze_fitting-requires
-unsqueeze_fitting-requires c =
+unsqueeze_fitting-requires g c =
     let out = c.args.out.now in
     let f = fitted (squeeze_of false c.args.w c.args.s.now) out (rw c.fits.ensures at c.if-not-fits.false) in
     (f.0, some_averages f.0 out f.1 c.if-out-eq0.false, some_lines f.0 out f.1 c.if-out-eq0.false, f.1)
 
 pub returns : goal.returns
-returns c =
-    let s = squeeze_of false c.args.w c.args.s.now in
-    rw c.unsqueeze_fitting.ensures (into_fits s c.args.out.now (rw c.fits.ensures at c.if-not-fits.false))
+returns g c =
+    let b = g.M.Marking.marks in
+    let w = c.args.w in
+    let s = squeeze_of false w c.args.s.now in
+    let out = c.args.out.now in
+    let e = rw c.fits.ensures at c.if-not-fits.false in (
+      rw c.unsqueeze_fitting.ensures.0 (into_fits s out e),
+      rw (c.unsqueeze_fitting.ensures.1, c.outers_outside.ensures w false)
+          (one_behind b (some_outside s.res) (some_outside (uncut s)) (outers_outside s) ∙ marked_fits b s out e c.read_samples.ensures),
+    )

@@ -1,28 +1,21 @@
--- `squeeze_tile` meets its contract: one return for each question in its order, and the squeeze of a call that is accepted (proofs/Fitted.antt).
+-- `squeeze_tile` meets its contract: a refused call keeps its output and has no mark, an accepted one has the squeeze's (proofs/Fitted.antt).
 -- Assumes nothing.
-use Rattle.tile.specs.Call.{slices_fit, squeeze_of}
-use Rattle.tile.proofs.Fitted.{areas_refused, sizes_refused, slices_refused, accepted_made}
+use Rattle.std.proofs.Common.{rules, ◌≡◌, ◌∙◌, Bool, false}
+use Rattle.numbers.specs.Numbers.{number_of, answer_of}
+use Rattle.numbers.proofs.Refusals.{number_some}
+use Rattle.range.specs.Range.{mark_of}
+use Rattle.tile.specs.Call.{squeeze_of}
+use Rattle.tile.proofs.Fitted.{refused, accepted_made}
 use Rattle.tile.proofs.squeeze_tile.Goals as goal
 
-pub returns-then-not-area_allowed : goal.returns-then-not-area_allowed
-returns-then-not-area_allowed c =
-    areas_refused _ c.area_allowed.ensures c.area_allowed-2.ensures c.area_allowed-3.ensures c.if-not-area_allowed.true
-
-pub returns-then-not-sides_fit-outer_fits : goal.returns-then-not-sides_fit-outer_fits
-returns-then-not-sides_fit-outer_fits c =
-    sizes_refused _ c.area_allowed.ensures c.area_allowed-2.ensures c.area_allowed-3.ensures c.if-not-area_allowed.false
-    c.across-crossing.ensures c.sides_fit.ensures c.outer_fits.ensures c.outer_fits-2.ensures c.if-not-sides_fit-outer_fits.true
-
-pub returns-then-not-avg-avgs : goal.returns-then-not-avg-avgs
-unfolding slices_fit
-returns-then-not-avg-avgs c =
-    slices_refused _ c.area_allowed.ensures c.area_allowed-2.ensures c.area_allowed-3.ensures c.if-not-area_allowed.false
-    c.across-crossing.ensures c.sides_fit.ensures c.outer_fits.ensures c.outer_fits-2.ensures c.if-not-sides_fit-outer_fits.false
-    c.if-not-avg-avgs.true
+pub returns-in_err-judge_tile : goal.returns-in_err-judge_tile
+returns-in_err-judge_tile g c =
+    let r = c.in_err-judge_tile.field-0.0 in
+    let e : answer_of {A = Bool} c.from_residual.result ≡ number_of r = search rules in
+    let m : mark_of c.from_residual.result ≡ false = search rules in
+    let w = refused _ g.M.Marking.marks (number_of r) (number_some r) c.in_err-judge_tile.ensures in
+    (e ∙ w.0, w.1, m ∙ w.2)
 
 pub returns : goal.returns
-unfolding slices_fit squeeze_of
-returns c =
-    accepted_made _ c.area_allowed.ensures c.area_allowed-2.ensures c.area_allowed-3.ensures c.if-not-area_allowed.false
-    c.across-crossing.ensures c.sides_fit.ensures c.outer_fits.ensures c.outer_fits-2.ensures c.if-not-sides_fit-outer_fits.false
-    c.if-not-avg-avgs.false _ c.unsqueeze.ensures
+unfolding squeeze_of
+returns g c = accepted_made _ g.M.Marking.marks _ _ c.in_ok-judge_tile.ensures c.unsqueeze.ensures.0 c.unsqueeze.ensures.1
