@@ -11,15 +11,16 @@ use borrow.Author.Tests.{eq-eqb, ne_eqb}
 use lib.IntN.{ℤ}
 use lib.ListN.{length}
 use Rattle.line.specs.Line.{Line, next_average, before, sample}
+use Rattle.line.specs.Marks.{squeeze_marked}
 use Rattle.line.specs.Uncut.{Squeeze, squeeze, Fitting, size, outer, line_of, output_at, uncut}
 use Rattle.cuts.specs.Cut.{Strip, StripFits, is_last, tile_averages, tile_residuals, tile_size, part, line_across, tile_avg, tile_res, tile_out, tile_next, tile_prev, tile_call}
-use Rattle.tile.specs.Call.{answer, after}
+use Rattle.tile.specs.Call.{answer, after, call_mark}
 use Rattle.line.proofs.Places.{entries_cong}
 use Rattle.std.proofs.lemmas.Bool.{cases_lt}
 use Rattle.line.proofs.Lines.{Fits, Stretch, stretch_sample, sample_second, before_next, before_first, next_inside, next_last}
 use Rattle.line.proofs.Outputs.{outer_at, outer_part, outer_length, uncut_at, line_averages, line_residuals, line_avg, line_res, line_next, line_prev}
 use Rattle.cuts.proofs.Parts.{part_length, part_at, across_length, across_at}
-use Rattle.tile.proofs.Accepted.{Arguments, accepted, accepted_after}
+use Rattle.tile.proofs.Accepted.{Arguments, accepted, accepted_after, accepted_mark}
 
 -- ---- the next average of two lines: inside both, at the end of both, or given by an outer line
 next_both : (l u : Line) (i j : ℕ) → i + 1 < u.averages → j + 1 < l.averages → u.avg (i + 1) ≡ l.avg (j + 1) → next_average u i ≡ next_average l j
@@ -95,7 +96,7 @@ module _ (s : Squeeze) (fs : Fitting s) (p : Strip) (fp : StripFits s p) where
   Left slices (suc t) = slices t ≡ tile_out s p t
 
   module _ (k : ℕ) (hk : k < p.lines) where
-    inside : p.start + k < s.lines
+    pub inside : p.start + k < s.lines
     inside = omega (arith, fp.inside)
 
     tile_avg_lem : (slices : ℕ → List ℤ) (t i : ℕ) → i < tile_averages s p t
@@ -211,7 +212,7 @@ module _ (s : Squeeze) (fs : Fitting s) (p : Strip) (fp : StripFits s p) where
         ∙ prev_last slices t (omega arith) w
         ∙ ap (λ (i : ℕ). before (line_of s (p.start + k)) (p.from i) ∷ []) e)
 
-    tile_stretch : (slices : ℕ → List ℤ) (t : ℕ) → t < p.tiles → Left slices t
+    pub tile_stretch : (slices : ℕ → List ℤ) (t : ℕ) → t < p.tiles → Left slices t
         → Stretch (line_of s (p.start + k)) (line_of (tile_squeeze slices t) k) (p.from t)
     tile_stretch slices t ht w =
         let na = line_averages (tile_squeeze slices t) k in
@@ -236,7 +237,7 @@ module _ (s : Squeeze) (fs : Fitting s) (p : Strip) (fp : StripFits s p) where
             by (ends e f ea er) = omega arith
             by (goes_on g f ea er) = absurd (omega arith)
 
-    tile_fits : (slices : ℕ → List ℤ) (t : ℕ) → t < p.tiles → Fits (line_of (tile_squeeze slices t) k)
+    pub tile_fits : (slices : ℕ → List ℤ) (t : ℕ) → t < p.tiles → Fits (line_of (tile_squeeze slices t) k)
     tile_fits slices t ht =
         let na = line_averages (tile_squeeze slices t) k in
         let nr = line_residuals (tile_squeeze slices t) k in
@@ -276,26 +277,38 @@ module _ (s : Squeeze) (fs : Fitting s) (p : Strip) (fp : StripFits s p) where
   prev_length slices (suc t) =
       inr (across_length s.horizontal p.lines (tile_size s p t) 0 p.lines (tile_size s p t - 1) (slices t))
 
-  -- the tile's call is accepted, and leaves its part of the uncut squeeze's output
-  pub tile_after : (slices : ℕ → List ℤ) (t : ℕ) → t < p.tiles → Left slices t → length (slices t) ≡ p.lines * tile_size s p t
-      → (answer (tile_call s p slices t) ≡ 0) × (after (tile_call s p slices t) ≡ tile_out s p t)
-  unfolding tile_call
-  tile_after slices t ht w n =
-      let h = s.horizontal in
-      let a = tile_averages s p t in
-      let r = tile_residuals s p t in
-      let sh = shape t ht in
-      let f : Arguments p.lines a r (tile_avg s p t) (tile_res s p t) (tile_next s p t) (tile_prev s p slices t) (slices t) =
-      record {
-        low = sh.low;
-        high = sh.high;
-        across = fp.side_across;
-        along = fp.side_along t ht;
-        room = fp.area t ht;
-        avg_length = part_length h s.lines s.averages p.start p.lines (p.from t) a s.avg;
-        res_length = part_length h s.lines s.residuals p.start p.lines (p.from t) r s.res;
-        out_length = n;
-        next_length = next_length t ht;
-        prev_length = prev_length slices t;
-      } in
-      (accepted h p.lines a r _ _ _ _ _ f, accepted_after h p.lines a r _ _ _ _ _ f ∙ tile_uncut slices t ht w)
+  -- the tile's call
+  module _ (slices : ℕ → List ℤ) (t : ℕ) (ht : t < p.tiles) (n : length (slices t) ≡ p.lines * tile_size s p t) where
+    arguments : Arguments p.lines (tile_averages s p t) (tile_residuals s p t)
+        (tile_avg s p t) (tile_res s p t) (tile_next s p t) (tile_prev s p slices t) (slices t)
+    arguments =
+        let h = s.horizontal in
+        let a = tile_averages s p t in
+        let r = tile_residuals s p t in
+        let sh = shape t ht in
+        record {
+          low = sh.low;
+          high = sh.high;
+          across = fp.side_across;
+          along = fp.side_along t ht;
+          room = fp.area t ht;
+          avg_length = part_length h s.lines s.averages p.start p.lines (p.from t) a s.avg;
+          res_length = part_length h s.lines s.residuals p.start p.lines (p.from t) r s.res;
+          out_length = n;
+          next_length = next_length t ht;
+          prev_length = prev_length slices t;
+        }
+
+    -- is accepted, leaves its part of the uncut squeeze's output, and tells the mark of the tile's squeeze
+    pub tile_accepted : answer (tile_call s p slices t) ≡ 0
+    unfolding tile_call
+    tile_accepted = accepted s.horizontal p.lines (tile_averages s p t) (tile_residuals s p t) _ _ _ _ _ arguments
+
+    pub tile_after : Left slices t → after (tile_call s p slices t) ≡ tile_out s p t
+    unfolding tile_call
+    tile_after w =
+        accepted_after s.horizontal p.lines (tile_averages s p t) (tile_residuals s p t) _ _ _ _ _ arguments ∙ tile_uncut slices t ht w
+
+    pub tile_mark : call_mark (tile_call s p slices t) ≡ squeeze_marked (tile_squeeze slices t)
+    unfolding tile_call
+    tile_mark = accepted_mark s.horizontal p.lines (tile_averages s p t) (tile_residuals s p t) _ _ _ _ _ arguments

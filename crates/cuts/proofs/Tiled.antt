@@ -48,13 +48,13 @@ module _ (s : Squeeze) (fs : Fitting s) where
       ∙ rw (a, b)
 
   module _ (cut : Cut s) where
-    abbrev start_of : ℕ → ℕ
+    abbrev pub start_of : ℕ → ℕ
     start_of n = (cut.strip n).start
 
-    abbrev lines_of : ℕ → ℕ
+    abbrev pub lines_of : ℕ → ℕ
     lines_of n = (cut.strip n).lines
 
-    strips_follow : Consecutive start_of lines_of cut.strips s.lines
+    pub strips_follow : Consecutive start_of lines_of cut.strips s.lines
     strips_follow = record { some = cut.some; first = cut.first; follows = cut.follows; last = cut.last }
 
     at_strip : (n t k i : ℕ) → n < cut.strips → LiesIn s (cut.strip n) t k i → At start_of lines_of cut.strips k n

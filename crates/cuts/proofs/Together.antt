@@ -1,7 +1,8 @@
 -- The claim over a whole list of tile calls (demand 3; document 01, "Whole runs"). The invariant along the list: of every strip the tiles that
 -- have run hold their parts of the uncut squeeze's output, and every slice keeps its length. The next tile of a strip finds the one before it
--- done, so its call is accepted and leaves its part; a refused call leaves the slice as it was. Assumes nothing.
-use mathlib.Core.Path.{◌≡◌, refl, ap, ◌∙◌}
+-- done, so its call is accepted and leaves its part; a refused call leaves the slice as it was. The marks that the calls tell, along the same list.
+-- Assumes nothing.
+use mathlib.Core.Path.{◌≡◌, refl, sym, ap, ◌∙◌}
 use mathlib.Core.Bool.{Bool, true, false, cond}
 use mathlib.Core.List.{List, [], ◌∷◌}
 use mathlib.Core.Logic.{◌⊎◌, inl, inr}
@@ -11,16 +12,19 @@ use borrow.Author.Tests.{eqb-true, eqb-false}
 use lib.Dec.{eqb}
 use lib.IntN.{ℤ}
 use lib.ListN.{length}
+use Rattle.range.proofs.Some.{left_false, right_false, both_false, same}
 use Rattle.line.specs.Uncut.{Squeeze, Fitting}
-use Rattle.tile.specs.Call.{Call, answer, after}
-use Rattle.cuts.specs.Cut.{Cut, tile_size, tile_out, tile_call, State, Event, runs, other, on, stored, happens, together, allowed, all_allowed, Begins, AllRan}
+use Rattle.line.specs.Marks.{squeeze_marked}
+use Rattle.tile.specs.Call.{Call, answer, after, call_mark}
+use Rattle.cuts.specs.Cut.{Cut, tile_size, tile_out, tile_call, State, Event, runs, other, on, stored, happens, together, mark_at, marks, allowed, all_allowed, Begins, AllRan}
 use Rattle.cuts.specs.Claim as Claim
 use Rattle.cuts.specs.Claim.{AllAccepted, AllHold, GiveUncut}
 use Rattle.std.proofs.lemmas.Bool.{cases_lt}
-use Rattle.tile.proofs.Fitted.{refused_after}
+use Rattle.tile.proofs.Fitted.{refused_after, refused_mark}
 use Rattle.cuts.proofs.Parts.{part_length}
-use Rattle.cuts.proofs.Stretches.{Left, tile_after}
+use Rattle.cuts.proofs.Stretches.{Left, tile_accepted, tile_after, tile_mark}
 use Rattle.cuts.proofs.Tiled.{each_in_place}
+use Rattle.cuts.proofs.Marks.{same_squeeze, tile_marked, NoneMarked, tiles_unmarked, whole_unmarked}
 
 -- what holds of the slice that is replaced, and of each other one, holds of all
 stored_elim : (Q : List ℤ → Type 0) (slices : ℕ → ℕ → List ℤ) (k t : ℕ) (xs : List ℤ) (i j : ℕ)
@@ -60,21 +64,30 @@ module _ (s : Squeeze) (fs : Fitting s) (cut : Cut s) where
   left k hk slices zero r = tt
   left k hk slices (suc t) r = r t (omega arith)
 
-  -- the next tile's call is accepted, and leaves its part
-  next_part : (state : State) → Holds state → (k : ℕ) (hk : k < cut.strips) → state.done k < (cut.strip k).tiles
-      → (answer (tile_call s (cut.strip k) (state.slices k) (state.done k)) ≡ 0)
-      × (after (tile_call s (cut.strip k) (state.slices k) (state.done k)) ≡ part_of k (state.done k))
-  next_part state h k hk ht =
-      tile_after s fs (cut.strip k) (cut.fits k hk) (state.slices k) (state.done k) ht
-      (left k hk (state.slices k) (state.done k) (λ t l. h.right k t hk l))
-      (h.long k (state.done k) hk ht)
+  -- the next tile's call is accepted, leaves its part, and tells the tile's mark
+  module _ (state : State) (h : Holds state) (k : ℕ) (hk : k < cut.strips) (ht : state.done k < (cut.strip k).tiles) where
+    next_left : Left s fs (cut.strip k) (cut.fits k hk) (state.slices k) (state.done k)
+    next_left = left k hk (state.slices k) (state.done k) (λ t l. h.right k t hk l)
+
+    next_accepted : answer (tile_call s (cut.strip k) (state.slices k) (state.done k)) ≡ 0
+    next_accepted =
+        tile_accepted s fs (cut.strip k) (cut.fits k hk) (state.slices k) (state.done k) ht (h.long k (state.done k) hk ht)
+
+    next_part : after (tile_call s (cut.strip k) (state.slices k) (state.done k)) ≡ part_of k (state.done k)
+    next_part =
+        tile_after s fs (cut.strip k) (cut.fits k hk) (state.slices k) (state.done k) ht (h.long k (state.done k) hk ht) next_left
+
+    next_mark : call_mark (tile_call s (cut.strip k) (state.slices k) (state.done k)) ≡ tile_marked s fs cut k hk (state.done k)
+    next_mark =
+        tile_mark s fs (cut.strip k) (cut.fits k hk) (state.slices k) (state.done k) ht (h.long k (state.done k) hk ht)
+        ∙ ap squeeze_marked (same_squeeze s fs (cut.strip k) (cut.fits k hk) (state.slices k) (state.done k) next_left)
 
   runs_holds : (k : ℕ) (state : State) → allowed s cut (runs k) state → Holds state → Holds (happens s cut (runs k) state)
   unfolding happens
   runs_holds k state a h =
       let d = state.done k in
       let xs = after (tile_call s (cut.strip k) (state.slices k) d) in
-      let e = (next_part state h k a.0 a.1).1 in
+      let e = next_part state h k a.0 a.1 in
       record {
         long = λ i t hi ht.
             stored_elim (λ (ys : List ℤ). length ys ≡ (cut.strip i).lines * tile_size s (cut.strip i) t) state.slices k d xs i t
@@ -124,7 +137,7 @@ module _ (s : Squeeze) (fs : Fitting s) (cut : Cut s) where
   all_hold (e ∷ es) state a h = all_hold es (happens s cut e state) a.1 (holds e state a.0 h)
 
   accepts : (e : Event) (state : State) → allowed s cut e state → Holds state → Claim.accepted s cut e state
-  accepts (runs k) state a h = (next_part state h k a.0 a.1).0
+  accepts (runs k) state a h = next_accepted state h k a.0 a.1
   accepts (other k t c) state a h = tt
 
   all_accepted : (es : List Event) (state : State) → all_allowed s cut es state → Holds state → AllAccepted s cut es state
@@ -143,11 +156,63 @@ module _ (s : Squeeze) (fs : Fitting s) (cut : Cut s) where
       → AllHold s cut (together s cut es state)
   parts_held es state b a r k t hk ht = (all_hold es state a (begun state b)).right k t hk (omega (arith, r k hk))
 
-  -- Demand 3, over a whole list of tile calls
+  -- ---- marks
+  -- an event that tells no mark: a tile that it counts has none
+  counted : (e : Event) (state : State) → allowed s cut e state → Holds state → mark_at s cut e state ≡ false
+      → (k : ℕ) (hk : k < cut.strips) (t : ℕ) → state.done k ≤ t
+      → (tile_marked s fs cut k hk t ≡ false) ⊎ ((happens s cut e state).done k ≤ t)
+  unfolding happens
+  counted (other j i c) state a h m k hk t lo = inr lo
+  counted (runs j) state a h m k hk t lo =
+      raised_elim (λ (n : ℕ). (tile_marked s fs cut k hk t ≡ false) ⊎ (n ≤ t)) state.done j k (λ e. by e (cases_lt (state.done k) t)) (λ _. inr lo)
+    where
+      by : k ≡ j → (state.done k < t) ⊎ (t ≤ state.done k) → (tile_marked s fs cut k hk t ≡ false) ⊎ (suc (state.done k) ≤ t)
+      by e (inl l) = inr l
+      by e (inr g) =
+          let d : t ≡ state.done k = omega arith in
+          inl (rw (d, e) (sym (next_mark state h j a.0 a.1) ∙ m))
+
+  -- a list that tells no mark: the tiles that have run by it have none
+  ran_unmarked : (es : List Event) (state : State) → all_allowed s cut es state → Holds state → marks s cut es state ≡ false
+      → (k : ℕ) (hk : k < cut.strips) (t : ℕ) → state.done k ≤ t → t < (together s cut es state).done k → tile_marked s fs cut k hk t ≡ false
+  ran_unmarked [] state a h m k hk t lo hi = absurd (omega arith)
+  ran_unmarked (e ∷ es) state a h m k hk t lo hi =
+      by (counted e state a.0 h (left_false (mark_at s cut e state) (marks s cut es (happens s cut e state)) m) k hk t lo)
+      (λ l.
+      ran_unmarked es (happens s cut e state) a.1 (holds e state a.0 h)
+      (right_false (mark_at s cut e state) (marks s cut es (happens s cut e state)) m) k hk t l hi)
+    where
+      by : (tile_marked s fs cut k hk t ≡ false) ⊎ ((happens s cut e state).done k ≤ t)
+          → ((happens s cut e state).done k ≤ t → tile_marked s fs cut k hk t ≡ false) → tile_marked s fs cut k hk t ≡ false
+      by (inl n) later = n
+      by (inr l) later = later l
+
+  -- where no tile has a mark, no call tells one
+  tells_none : (e : Event) (state : State) → allowed s cut e state → Holds state → NoneMarked s fs cut → mark_at s cut e state ≡ false
+  tells_none (runs k) state a h n = next_mark state h k a.0 a.1 ∙ n k a.0 (state.done k) a.1
+  tells_none (other k t c) state a h n = refused_mark (on c (state.slices k t)) a
+
+  tell_none : (es : List Event) (state : State) → all_allowed s cut es state → Holds state → NoneMarked s fs cut → marks s cut es state ≡ false
+  tell_none [] state a h n = refl
+  tell_none (e ∷ es) state a h n =
+      both_false (mark_at s cut e state) (marks s cut es (happens s cut e state)) (tells_none e state a.0 h n)
+      (tell_none es (happens s cut e state) a.1 (holds e state a.0 h) n)
+
+  marked_together : (es : List Event) (state : State) → Begins s cut state → all_allowed s cut es state → AllRan s cut (together s cut es state)
+      → marks s cut es state ≡ squeeze_marked s
+  marked_together es state b a r =
+      same (marks s cut es state) (squeeze_marked s)
+      (λ m.
+      whole_unmarked s fs cut
+      (λ k hk t ht. ran_unmarked es state a (begun state b) m k hk t (omega (arith, b.none k)) (omega (arith, r k hk))))
+      (λ m. tell_none es state a (begun state b) (tiles_unmarked s fs cut m))
+
+  -- Demand 3, over a whole list of tile calls, and what they tell together
   pub tiles_together : (es : List Event) (state : State) → Begins s cut state → all_allowed s cut es state → GiveUncut s cut es state
   tiles_together es state b a =
       record {
         accepted = all_accepted es state a (begun state b);
         hold = parts_held es state b a;
         placed = λ r. each_in_place s fs cut (together s cut es state) (parts_held es state b a r);
+        marked = marked_together es state b a;
       }

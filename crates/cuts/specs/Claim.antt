@@ -1,9 +1,11 @@
 -- Demand 3 over a whole list of tile calls: "Wherever a squeeze is cut into tiles as in 01 .. the tile calls together give exactly the samples of
--- 01's uncut squeeze, each in its place, whatever refused calls stand between them". Statements only; proofs/Together.antt proves it.
+-- 01's uncut squeeze, each in its place, whatever refused calls stand between them". And what they tell of the plain range (document 02, A.3) is what the
+-- uncut squeeze's mark says. Statements only; proofs/Together.antt proves it.
 use Rattle.std.specs.Prelude.{◌≡◌, List, [], ◌∷◌, ℕ, ◌+◌, ◌-◌, ◌<◌, ◌≤◌, pos, get_or}
 use Rattle.line.specs.Uncut.{Squeeze, place, size, uncut}
+use Rattle.line.specs.Marks.{squeeze_marked}
 use Rattle.tile.specs.Call.{answer}
-use Rattle.cuts.specs.Cut.{Strip, Cut, tile_size, tile_start, tile_out, tile_call, State, Event, runs, other, happens, together, AllRan}
+use Rattle.cuts.specs.Cut.{Strip, Cut, tile_size, tile_start, tile_out, tile_call, State, Event, runs, other, happens, together, marks, AllRan}
 
 -- "each tile has one accepted call": as the list goes, the call of each tile is accepted
 abbrev pub accepted : (s : Squeeze) → Cut s → Event → State → Type 0
@@ -53,3 +55,5 @@ pub record GiveUncut (s : Squeeze) (cut : Cut s) (es : List Event) (state : Stat
   pub accepted : AllAccepted s cut es state
   pub hold : AllRan s cut (together s cut es state) → AllHold s cut (together s cut es state)
   pub placed : AllRan s cut (together s cut es state) → EachInItsPlace s cut (together s cut es state)
+  -- some call tells the mark exactly if the uncut squeeze has it
+  pub marked : AllRan s cut (together s cut es state) → marks s cut es state ≡ squeeze_marked s

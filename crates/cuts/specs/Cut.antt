@@ -1,9 +1,9 @@
 -- A squeeze cut into tiles, and a whole list of tile calls (document 01, "Whole runs"): "cut across into strips anywhere, each strip along the
 -- squeeze into one tile or more; each tile has one accepted call and its own output slice". Definitions only; specs/Claim.antt has the claim.
-use Rattle.std.specs.Prelude.{◌≡◌, Bool, cond, List, [], ◌∷◌, ℕ, zero, suc, ◌+◌, ◌-◌, ◌*◌, ◌<◌, ◌≤◌, eqb, ℤ, pos, length, get_or, take, drop}
+use Rattle.std.specs.Prelude.{◌≡◌, Bool, false, cond, ◌||◌, List, [], ◌∷◌, ℕ, zero, suc, ◌+◌, ◌-◌, ◌*◌, ◌<◌, ◌≤◌, eqb, ℤ, pos, length, get_or, take, drop}
 use Rattle.numbers.specs.Numbers.{max_side, max_samples}
 use Rattle.line.specs.Uncut.{Squeeze, place, line_at, position_at, size, table, uncut}
-use Rattle.tile.specs.Call.{Call, sides, answer, after}
+use Rattle.tile.specs.Call.{Call, sides, answer, after, call_mark}
 
 -- a strip: the lines from `start` on, and its tiles along the squeeze; tile t begins with pair `from t`
 pub record Strip : Type 0 where
@@ -148,6 +148,15 @@ happens s cut (other k t c) state =
 abbrev pub together : (s : Squeeze) → Cut s → List Event → State → State
 together s cut [] state = state
 together s cut (e ∷ es) state = together s cut es (happens s cut e state)
+
+-- what the calls tell of the plain range (document 02, A.3): the mark of the call that an event makes, and of some call of a whole list
+abbrev pub mark_at : (s : Squeeze) → Cut s → Event → State → Bool
+mark_at s cut (runs k) state = call_mark (tile_call s (cut.strip k) (state.slices k) (state.done k))
+mark_at s cut (other k t c) state = call_mark (on c (state.slices k t))
+
+abbrev pub marks : (s : Squeeze) → Cut s → List Event → State → Bool
+marks s cut [] state = false
+marks s cut (e ∷ es) state = mark_at s cut e state || marks s cut es (happens s cut e state)
 
 -- each call is one that document 01 allows there: a tile of the cut that has not run, or a call that is refused
 abbrev pub allowed : (s : Squeeze) → Cut s → Event → State → Type 0

@@ -1,12 +1,19 @@
 -- Document 01's own case ("Wrong, but natural"): "averages 10, 4 with residuals 1, 0 cut in two". All that the claim over tile calls asks holds of
 -- it, and the tiles' slices then hold 11 9 and 4 4. A statement only; proofs/Witness.antt proves it.
-use Rattle.std.specs.Prelude.{◌≡◌, true, List, [], ◌∷◌, pos}
+use Rattle.std.specs.Prelude.{◌≡◌, true, false, List, [], ◌∷◌, ℤ, pos}
 use Rattle.line.specs.Uncut.{Squeeze, squeeze, Fitting, uncut}
 use Rattle.tile.specs.Call.{Call, call}
-use Rattle.cuts.specs.Cut.{Strip, Cut, State, Event, runs, other, together, all_allowed, Begins, AllRan}
+use Rattle.cuts.specs.Cut.{Strip, Cut, State, Event, runs, other, together, marks, all_allowed, Begins, AllRan}
+
+abbrev pub row_of : ℤ → Squeeze
+row_of residual = squeeze true 1 2 2 (pos 10 ∷ pos 4 ∷ []) (pos 1 ∷ residual ∷ []) [] []
 
 abbrev pub row : Squeeze
-row = squeeze true 1 2 2 (pos 10 ∷ pos 4 ∷ []) (pos 1 ∷ pos 0 ∷ []) [] []
+row = row_of (pos 0)
+
+-- the same, with a second residual outside the plain range
+abbrev pub far : Squeeze
+far = row_of (pos 268_435_456)
 
 -- cut into two tiles of one pair each, in one strip
 abbrev pub halves : Strip
@@ -37,3 +44,7 @@ pub record Witness : Type 0 where
   pub whole : uncut row ≡ pos 11 ∷ pos 9 ∷ pos 4 ∷ pos 4 ∷ []
   -- "Ending a tile on its own average" the first "would start 10 9"
   pub on_its_own : uncut (squeeze true 1 1 1 (pos 10 ∷ []) (pos 1 ∷ []) [] []) ≡ pos 10 ∷ pos 9 ∷ []
+  -- the calls tell no mark; of the row with the second residual outside they tell one
+  pub plain : marks row cut calls begun ≡ false
+  pub far_cut : Cut far
+  pub far_marked : marks far far_cut calls begun ≡ true
