@@ -1,5 +1,5 @@
 -- Slices filled with the entries of all lines are the averages and the residuals, also of lines of one sample; and what callers ask of
--- `squeezed_into` (specs/Into.antt). Assumes nothing.
+-- `squeezed_into` and `marked_into` (specs/Into.antt). Assumes nothing.
 use mathlib.Core.Path.{◌≡◌, refl, sym, ◌∙◌}
 use mathlib.Core.Bool.{Bool, true, false}
 use mathlib.Core.List.{List, ◌++◌}
@@ -16,7 +16,8 @@ use Rattle.line.specs.Forward as F
 use Rattle.line.specs.Forward.{average_count, residual_count, averages_of, residuals_of, line_in}
 use Rattle.std.proofs.lemmas.Bool.{cases_lt}
 use Rattle.forward.specs.Rows.{average_entry, residual_entry, Filled}
-use Rattle.forward.specs.Into.{slices_fit, squeezed_into}
+use Rattle.line.specs.Marks.{lines_marked}
+use Rattle.forward.specs.Into.{slices_fit, squeezed_into, marked_into}
 use Rattle.line.proofs.Alone.{average_tail}
 use Rattle.forward.proofs.Entries.{average_entry_lem}
 use Rattle.forward.proofs.Filled.{filled_all}
@@ -80,9 +81,19 @@ module _ (lines size : ℕ) (xs : List ℤ) (h : size < 2) where
       let a : residual_count size ≡ 0 = omega arith in
       absurd (let none : j < lines * 0 = rw a at l in omega arith))
 
--- ---- what callers ask: slices of the lengths that the sides ask for
-pub squeezed_fit : (d : Bool) (lines size : ℕ) (xs out : List ℤ) → lines ≤ max_side → size ≤ max_side → length xs ≡ lines * size → length out ≡ lines * size
+-- ---- slices that fit
+pub into_fit : (d : Bool) (lines size : ℕ) (xs out : List ℤ) → slices_fit lines size xs out ≡ true
     → squeezed_into d lines size xs out ≡ averages_of d lines size xs ++ residuals_of d lines size xs
-unfolding slices_fit squeezed_into
-squeezed_fit d lines size xs out p q ex eo =
+unfolding squeezed_into
+into_fit d lines size xs out e = rw e
+
+pub told_fit : (d : Bool) (lines size : ℕ) (xs out : List ℤ) → slices_fit lines size xs out ≡ true → marked_into d lines size xs out ≡ lines_marked d lines size xs
+unfolding marked_into
+told_fit d lines size xs out e = rw e
+
+-- what callers ask: slices of the lengths that the sides ask for
+pub fitting : (lines size : ℕ) (xs out : List ℤ) → lines ≤ max_side → size ≤ max_side → length xs ≡ lines * size → length out ≡ lines * size
+    → slices_fit lines size xs out ≡ true
+unfolding slices_fit
+fitting lines size xs out p q ex eo =
     rw (le-leb lines max_side p, le-leb size max_side q, eq-eqb (length xs) (lines * size) ex, eq-eqb (length out) (lines * size) eo)

@@ -3,3 +3,5 @@ pub mod Filled
 pub mod Nexts
 pub mod Stretches
 pub mod Fitted
+pub mod Marked
+pub mod Written

@@ -3,6 +3,7 @@
 use Rattle.std.specs.Prelude.{Bool, cond, ◌&&◌, List, ◌++◌, ℕ, ◌*◌, eqb, leb, ℤ, length}
 use Rattle.numbers.specs.Numbers.{max_side}
 use Rattle.line.specs.Forward.{averages_of, residuals_of}
+use Rattle.line.specs.Marks.{lines_marked}
 
 -- no side above the limit, so that the lengths can be told
 unfoldable pub slices_fit : ℕ → ℕ → List ℤ → List ℤ → Bool
@@ -13,3 +14,7 @@ slices_fit lines size xs out =
 unfoldable pub squeezed_into : Bool → ℕ → ℕ → List ℤ → List ℤ → List ℤ
 squeezed_into horizontal lines size xs out =
     cond (slices_fit lines size xs out) (averages_of horizontal lines size xs ++ residuals_of horizontal lines size xs) out
+
+-- whether a pair or a tail of the channel leaves the plain range: nothing is read where the slices do not fit
+unfoldable pub marked_into : Bool → ℕ → ℕ → List ℤ → List ℤ → Bool
+marked_into horizontal lines size xs out = slices_fit lines size xs out && lines_marked horizontal lines size xs

@@ -2,15 +2,21 @@
 // first: total, a call whose slices do not fit leaves the output as it was. Both
 // are written together and row by row, so that a sample is read from memory once,
 // along the rows of the samples that the entries are made of, in either direction.
+// The mark, whether a pair or a tail leaves the plain range, is told by the samples
+// and the residuals alone: an average lies between its two samples where these lie
+// inside (`written_by_samples` of crate line). They are looked at a row at a time,
+// right after the row is made, by loops of their own.
 #![tactic(auto)]
 
-ghost use Rattle.std.specs.Prelude.{◌≡◌, ℕ, ℤ, pos, true, false, ◌++◌, ◌+◌, ◌*◌, ◌/◌, ◌<◌, ◌≤◌, length, get_or, take, drop, min, ◌-◌};
+ghost use Rattle.std.specs.Prelude.{◌≡◌, Bool, ◌&&◌, ◌||◌, ℕ, ℤ, pos, true, false, ◌++◌, ◌+◌, ◌*◌, ◌/◌, ◌<◌, ◌≤◌, length, get_or, take, drop, min, ◌-◌};
+ghost use Rattle.range.specs.Range.{some_outside};
 ghost use Rattle.line.specs.Uncut.{table};
 ghost use Rattle.line.specs.Forward.{average_count, residual_count, average_at, next_at, prev_at, residual_at, averages_of, residuals_of};
-ghost use Rattle.forward.specs.Into.{slices_fit, squeezed_into};
+ghost use Rattle.forward.specs.Into.{slices_fit, squeezed_into, marked_into};
 ghost use Rattle.forward.specs.Rows.{along, Filled, average_entry, residual_entry, Reach, Read, average_over, residual_over, next_first};
 
 use numbers::MAX_SIDE;
+use range::Marking;
 use tendency::{Branching, Branchless};
 
 // So many rows of `width` samples each, in one slice: the lines of a horizontal
@@ -104,14 +110,9 @@ impl<const STEP: usize> Stretch<'_, STEP> {
             let i = x * STEP;
             let own = pair::squeeze(self.first[i], self.second[i]);
             let next = pair::squeeze(self.third[i], self.fourth[i]);
-            let average = own.average;
-            averages[x] = average;
-            residuals[x] = pair::residual::<Branchless>(
-                own.difference,
-                average,
-                next.average,
-                before.at(i, average),
-            );
+            averages[x] = own.average;
+            let rest = pair::residual::<Branchless>(own, next.average, before.at(i, own.average));
+            residuals[x] = rest.residual;
         }
     }
 }
@@ -155,23 +156,23 @@ fn prev_at(line: &[i32], i: usize, own: i32) -> i32
 }
 
 #[tactic(auto, unfolding(line::specs::Forward::residual_at, pair::specs::Pair::residual, line::specs::Forward::average_at))]
+#[inline(always)]
 fn residual_at(line: &[i32], i: usize) -> i32
     requires { i + i + 1 < length line.now }
     ensures { result ≡ residual_at (along line.now) (length line.now) i }
 {
-    let pair = pair::squeeze(line[i + i], line[i + i + 1]);
-    let own = pair.average;
-    pair::residual::<Branching>(
-        pair.difference,
-        own,
-        next_at(line, i, own),
-        prev_at(line, i, own),
-    )
+    let own = pair::squeeze(line[i + i], line[i + i + 1]);
+    let next = next_at(line, i, own.average);
+    let prev = prev_at(line, i, own.average);
+    pair::residual::<Branching>(own, next, prev).residual
 }
 
 // A line: the first and the last pair stand at its ends, and its tail is the last
 // average. A residual is made before its average is stored, so that the compiler
-// makes the pair once.
+// makes the pair once. Loops with a mark and without call it, so that it is inlined,
+// and `residual_at` with it: calls would cost short lines up to a sixth of their
+// instructions.
+#[inline(always)]
 fn squeeze_line(line: &[i32], averages: &mut [i32], residuals: &mut [i32])
     requires { (length averages.old ≡ average_count (length line.now)) × (length residuals.old ≡ residual_count (length line.now)) }
     ensures made { averages.new ≡ table (average_at (along line.now) (length line.now)) 0 (average_count (length line.now)) }
@@ -223,45 +224,49 @@ fn next_first(size: usize, i: usize) -> usize
 }
 
 impl Rows<'_> {
-    // All lines; those of one sample are tails alone.
+    // All lines, and whether a sample of theirs or a residual lies outside the plain
+    // range; those of one sample are tails alone.
     #[tactic(auto, using(crate::proofs::Entries::row_room, crate::proofs::Entries::halves, crate::proofs::Fitted::tails_alone, crate::proofs::Fitted::no_residuals, crate::proofs::Fitted::averages_all, crate::proofs::Fitted::residuals_all))]
-    fn squeeze_along(&self, averages: &mut [i32], residuals: &mut [i32])
+    fn squeeze_along<M: Marking>(&self, averages: &mut [i32], residuals: &mut [i32]) -> bool
         requires { (length averages.old ≡ self.now.count * average_count self.now.width) × (length residuals.old ≡ self.now.count * residual_count self.now.width) }
         ensures made { averages.new ≡ averages_of true self.now.count self.now.width self.now.samples.now }
         ensures left { residuals.new ≡ residuals_of true self.now.count self.now.width self.now.samples.now }
+        ensures told { result ≡ (M.marks && (some_outside residuals.new || some_outside self.now.samples.now)) }
     {
         if self.width < 2 {
             averages.copy_from_slice(self.samples);
-            return;
+            return M::some_outside(self.samples);
         }
         let rest = self.width / 2;
         let count = self.width - rest;
+        let mut outside = false;
         for y in 0..self.count {
-            squeeze_line(
-                self.row(y),
-                &mut averages[y * count..y * count + count],
-                &mut residuals[y * rest..y * rest + rest],
-            );
+            let line = self.row(y);
+            let left = &mut residuals[y * rest..y * rest + rest];
+            squeeze_line(line, &mut averages[y * count..y * count + count], left);
+            outside |= M::some_outside(left) | M::some_outside(line);
         }
+        outside
     }
 
     // Pair y of all lines of a vertical squeeze, with the positions of what stands for
-    // the pair after it.
+    // the pair after it, and whether a sample of it or a residual lies outside.
     #[tactic(auto, using(crate::proofs::Nexts::first_inside, crate::proofs::Stretches::row_averages, crate::proofs::Stretches::row_residuals, crate::proofs::Entries::prev_first))]
     #[inline(always)]
-    fn squeeze_row(
+    fn squeeze_row<M: Marking>(
         &self,
         y: usize,
         third: usize,
         fourth: usize,
         averages: &mut [i32],
         residuals: &mut [i32],
-    )
+    ) -> bool
         requires pair { y + y + 1 < self.now.count }
         requires after { (third ≡ next_first self.now.count y) × (fourth ≡ min (third + 1) (self.now.count - 1)) }
         requires room { (length averages.old ≡ self.now.width) × (length residuals.old ≡ self.now.width) }
         ensures made { averages.new ≡ table (average_entry false self.now.width self.now.count self.now.samples.now) (y * self.now.width) self.now.width }
         ensures left { residuals.new ≡ table (residual_entry false self.now.width self.now.count self.now.samples.now) (y * self.now.width) self.now.width }
+        ensures told { result ≡ (M.marks && (some_outside residuals.new || some_outside (take (self.now.width + self.now.width) (drop ((y + y) * self.now.width) self.now.samples.now)))) }
     {
         let pairs = Stretch::<1> {
             count: self.width,
@@ -276,18 +281,22 @@ impl Rows<'_> {
             let samples = self.row(y + y - 1);
             pairs.squeeze(Neighbours { samples }, averages, residuals);
         }
+        let start = (y + y) * self.width;
+        M::some_outside(residuals)
+            | M::some_outside(&self.samples[start..start + (self.width + self.width)])
     }
 
     // The same of a pair that may stand at the lines' ends.
-    fn end_row(&self, y: usize, averages: &mut [i32], residuals: &mut [i32])
+    fn end_row<M: Marking>(&self, y: usize, averages: &mut [i32], residuals: &mut [i32]) -> bool
         requires pair { y + y + 1 < self.now.count }
         requires room { (length averages.old ≡ self.now.width) × (length residuals.old ≡ self.now.width) }
         ensures made { averages.new ≡ table (average_entry false self.now.width self.now.count self.now.samples.now) (y * self.now.width) self.now.width }
         ensures left { residuals.new ≡ table (residual_entry false self.now.width self.now.count self.now.samples.now) (y * self.now.width) self.now.width }
+        ensures told { result ≡ (M.marks && (some_outside residuals.new || some_outside (take (self.now.width + self.now.width) (drop ((y + y) * self.now.width) self.now.samples.now)))) }
     {
         let third = next_first(self.count, y);
         let fourth = (third + 1).min(self.count - 1);
-        self.squeeze_row(y, third, fourth, averages, residuals);
+        self.squeeze_row::<M>(y, third, fourth, averages, residuals)
     }
 
     // The rows of pairs. The first and the last are left out of the loop and a turn is
@@ -295,23 +304,24 @@ impl Rows<'_> {
     // once, before the first turn, that all that is read lies apart from all that is
     // written.
     #[tactic(auto, using(crate::proofs::Filled::first_row), unfolding(crate::specs::Rows::next_first))]
-    fn pairs_across(&self, averages: &mut [i32], residuals: &mut [i32])
+    fn pairs_across<M: Marking>(&self, averages: &mut [i32], residuals: &mut [i32]) -> bool
         requires { (length averages.old ≡ self.now.width * average_count self.now.count) × (length residuals.old ≡ self.now.width * residual_count self.now.count) }
         ensures made { Filled (average_entry false self.now.width self.now.count self.now.samples.now) (self.now.count / 2 * self.now.width) averages.new }
         ensures left { Filled (residual_entry false self.now.width self.now.count self.now.samples.now) (self.now.count / 2 * self.now.width) residuals.new }
+        ensures told { result ≡ (M.marks && (some_outside (take (self.now.count / 2 * self.now.width) residuals.new) || some_outside (take ((self.now.count / 2 + self.now.count / 2) * self.now.width) self.now.samples.now))) }
     {
         let width = self.width;
         let n = self.count / 2;
         if n == 0 {
-            return;
+            return false;
         }
-        self.end_row(0, &mut averages[..width], &mut residuals[..width]);
+        let mut outside = self.end_row::<M>(0, &mut averages[..width], &mut residuals[..width]);
         if n == 1 {
-            return;
+            return outside;
         }
         let last = n - 1;
         for y in 1..last {
-            self.squeeze_row(
+            outside |= self.squeeze_row::<M>(
                 y,
                 y + y + 2,
                 y + y + 3,
@@ -319,25 +329,30 @@ impl Rows<'_> {
                 &mut residuals[y * width..y * width + width],
             );
         }
-        self.end_row(
-            last,
-            &mut averages[last * width..last * width + width],
-            &mut residuals[last * width..last * width + width],
-        );
+        outside
+            | self.end_row::<M>(
+                last,
+                &mut averages[last * width..last * width + width],
+                &mut residuals[last * width..last * width + width],
+            )
     }
 
     // The rows of pairs, then the row of tails.
     #[tactic(auto, using(crate::proofs::Fitted::all_averages, crate::proofs::Fitted::all_residuals))]
-    fn squeeze_across(&self, averages: &mut [i32], residuals: &mut [i32])
+    fn squeeze_across<M: Marking>(&self, averages: &mut [i32], residuals: &mut [i32]) -> bool
         requires { (length averages.old ≡ self.now.width * average_count self.now.count) × (length residuals.old ≡ self.now.width * residual_count self.now.count) }
         ensures made { averages.new ≡ averages_of false self.now.width self.now.count self.now.samples.now }
         ensures left { residuals.new ≡ residuals_of false self.now.width self.now.count self.now.samples.now }
+        ensures told { result ≡ (M.marks && (some_outside residuals.new || some_outside self.now.samples.now)) }
     {
-        self.pairs_across(averages, residuals);
+        let outside = self.pairs_across::<M>(averages, residuals);
         let n = self.count / 2;
         if n + n < self.count {
-            averages[n * self.width..].copy_from_slice(self.row(n + n));
+            let tails = self.row(n + n);
+            averages[n * self.width..].copy_from_slice(tails);
+            return outside | M::some_outside(tails);
         }
+        outside
     }
 }
 
@@ -353,13 +368,20 @@ fn slices_fit(lines: usize, size: usize, xs: &[i32], out: &[i32]) -> bool
 
 // The averages, then the residuals, of so many lines of `size` samples each: along
 // the rows of a slice where the squeeze is horizontal, down its columns where it
-// is vertical.
-#[tactic(auto, using(crate::proofs::Entries::area, crate::proofs::Entries::halves), unfolding(crate::specs::Into::squeezed_into))]
-pub fn squeeze_lines(horizontal: bool, lines: usize, size: usize, xs: &[i32], out: &mut [i32])
-    ensures { out.new ≡ squeezed_into horizontal lines size xs.now out.old }
+// is vertical; and whether a pair or a tail leaves the plain range. Where the slices
+// do not fit, nothing is told.
+#[tactic(auto, using(crate::proofs::Entries::area, crate::proofs::Entries::halves), unfolding(crate::specs::Into::squeezed_into, crate::specs::Into::marked_into))]
+pub fn squeeze_lines<M: Marking>(
+    horizontal: bool,
+    lines: usize,
+    size: usize,
+    xs: &[i32],
+    out: &mut [i32],
+) -> bool
+    ensures { (out.new ≡ squeezed_into horizontal lines size xs.now out.old) × (result ≡ (M.marks && marked_into horizontal lines size xs.now out.old)) }
 {
     if !slices_fit(lines, size, xs, out) {
-        return;
+        return false;
     }
     let (averages, residuals) = out.split_at_mut(lines * (size - size / 2));
     if horizontal {
@@ -368,13 +390,13 @@ pub fn squeeze_lines(horizontal: bool, lines: usize, size: usize, xs: &[i32], ou
             width: size,
             samples: xs,
         };
-        rows.squeeze_along(averages, residuals);
+        rows.squeeze_along::<M>(averages, residuals)
     } else {
         let rows = Rows {
             count: size,
             width: lines,
             samples: xs,
         };
-        rows.squeeze_across(averages, residuals);
+        rows.squeeze_across::<M>(averages, residuals)
     }
 }
