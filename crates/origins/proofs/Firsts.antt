@@ -16,7 +16,8 @@ use Rattle.list.specs.Entries.{is_inside, source}
 use Rattle.list.proofs.Entries.{residuals_at, entry_before, entry_average, entry_between, entry_after, origins_stepped}
 use Rattle.list.proofs.Made.{inside_yes, inside_low, inside_high, origin_source}
 use Rattle.origins.specs.Origins as Origins
-use Rattle.origins.specs.Origins.{place_after, averaged_by}
+use Rattle.runs.specs.Runs.{place_after}
+use Rattle.origins.specs.Origins.{averaged_by}
 use Rattle.origins.specs.Claim.{IsFirst}
 
 -- ---- where a step puts the averages of the channel at p, n channels in all and the residuals from r on
@@ -28,7 +29,7 @@ module _ (s : Step) (n r p : ℕ) (inside : s.begin + s.number ≤ n) (er : r �
     stays : s.begin + s.number ≤ p → q ≡ p → r ≡ n → Where q
 
   is_where : Where (place_after s p)
-  unfolding Origins.place_after
+  unfolding place_after
   is_where = by (ltb p (s.begin + s.number)) s.inplace refl er
     where
       by : (b i : Bool) → ltb p (s.begin + s.number) ≡ b → r ≡ cond i (s.begin + s.number) n → Where (cond b p (cond i (p + s.number) p))

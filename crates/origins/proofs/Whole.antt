@@ -10,9 +10,9 @@ use Rattle.list.specs.Lists.{own_positions, stepped, stepped_origins}
 use Rattle.list.specs.Questions.{channel_of}
 use Rattle.list.proofs.Channels.{own_length, own_at}
 use Rattle.list.proofs.Entries.{residuals_at, stepped_length}
-use Rattle.runs.specs.Runs.{layout}
+use Rattle.runs.specs.Runs.{place_after, layout}
 use Rattle.runs.proofs.Taken.{by_taken, taken_inside}
-use Rattle.origins.specs.Origins.{origins_from, place_after, averaged_by, averages_place, averages_channel}
+use Rattle.origins.specs.Origins.{origins_from, averaged_by, averages_place, averages_channel}
 use Rattle.origins.specs.Claim.{IsFirst, OriginLaws}
 use Rattle.origins.proofs.Totals.{step_same, origin_total}
 use Rattle.origins.proofs.Firsts.{first_step, below_step, average_step, place_inside}

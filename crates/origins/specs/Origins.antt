@@ -1,10 +1,10 @@
 -- Origins along a run of any steps (document 02, A.4), the channels of one origin, and where the averages of a channel stand. Definitions only.
-use Rattle.std.specs.Prelude.{Bool, cond, List, [], ◌∷◌, ℕ, ◌+◌, eqb, ltb, length}
+use Rattle.std.specs.Prelude.{Bool, cond, List, [], ◌∷◌, ℕ, eqb, length}
 use Rattle.channel.specs.declared.Channel.{Channel}
 use Rattle.list.specs.declared.Step.{Step}
 use Rattle.list.specs.Lists.{own_positions, average, stepped, stepped_origins}
 use Rattle.list.specs.Entries.{is_inside}
-use Rattle.runs.specs.Runs.{is_taken}
+use Rattle.runs.specs.Runs.{place_after, is_taken}
 
 -- ---- the origins of the layout, from those of the first list: a refused step leaves them as they are
 abbrev pub origins_from : List Step → List Channel → List ℕ → List ℕ
@@ -24,10 +24,7 @@ of_origin o [] xs = []
 of_origin o (a ∷ os) [] = []
 of_origin o (a ∷ os) (x ∷ xs) = kept_if (eqb a o) x (of_origin o os xs)
 
--- ---- the averages of the channel at p: a step puts its average where the channel stood, and in place the residuals move on what is behind the range
-unfoldable pub place_after : Step → ℕ → ℕ
-place_after s p = cond (ltb p (s.begin + s.number)) p (cond s.inplace (p + s.number) p)
-
+-- ---- the averages of the channel at p (`place_after` says where it stands next)
 unfoldable pub averaged_by : Step → ℕ → Channel → Channel
 averaged_by s p c = cond (is_inside s.begin s.number p) (average s.horizontal c) c
 

@@ -4,9 +4,7 @@
 use mathlib.Core.Path.{◌≡◌, refl, ap, ◌∙◌}
 use mathlib.Core.Bool.{Bool, true}
 use mathlib.Core.List.{List, [], ◌∷◌}
-use mathlib.Core.Logic.{inl}
 use Prim.Native.Nat.{◌+◌}
-use native.Mathlib.Omega.{arith}
 use lib.IntN.{ℤ}
 use lib.ListN.{length, take, drop}
 use Rattle.channel.specs.declared.Channel.{Channel}
@@ -14,7 +12,7 @@ use Rattle.channel.specs.Channel.{samples}
 use Rattle.list.specs.declared.Step.{Step}
 use Rattle.list.specs.Lists.{average, residual, range, stepped}
 use Rattle.list.specs.Tables.{map}
-use Rattle.line.specs.Uncut.{squeeze, Fitting, uncut}
+use Rattle.line.specs.Uncut.{squeeze, uncut}
 use Rattle.line.specs.Forward.{average_count, residual_count}
 use Rattle.line.specs.Plain.{AllInDomain}
 use Rattle.line.proofs.Places.{is_entries}
@@ -27,31 +25,20 @@ use Rattle.runs.specs.Claim.{Fills}
 use Rattle.runs.specs.Unbounded.{standard_back, standard_step, standard_run, RangeInDomain, StepInDomain, RunInDomain}
 use Rattle.runs.proofs.Taken.{by_taken, taken_inside}
 use Rattle.runs.proofs.Shapes.{Shaped, parts_shaped, parts_samples}
-use Rattle.runs.proofs.OneChannel.{average_samples, residual_samples}
+use Rattle.runs.proofs.OneChannel.{channel_fits}
 use Rattle.runs.proofs.OneStep.{step_shapes}
 use Rattle.runs.proofs.Whole.{rebuilt_fills}
 
 -- ---- one channel
 module _ (h : Bool) (c : Channel) (avg res : List ℤ) (la : length avg ≡ samples (average h c)) (lr : length res ≡ samples (residual h c))
     (da : AllInDomain avg) (dr : AllInDomain res) (dm : AllInDomain (channel_back h c avg res)) where
-  fitting : Fitting (squeeze h (lines_of h c) (average_count (size_of h c)) (residual_count (size_of h c)) avg res [] [])
-  fitting =
-      record {
-        low = omega arith;
-        high = omega arith;
-        avg_length = la ∙ average_samples h c;
-        res_length = lr ∙ residual_samples h c;
-        next_length = inl refl;
-        prev_length = inl refl;
-      }
-
   channel_standard : channel_back h c avg res ≡ standard_back h c avg res
   unfolding channel_back standard_back
   channel_standard =
       let n = size_of h c in
       let q = squeeze h (lines_of h c) (average_count n) (residual_count n) avg res [] [] in
       is_entries h (lines_of h c) n _ (uncut q) (uncut_length q ∙ rw (all_samples n))
-      (λ k i hk hi. rw (all_samples n) at (uncut_standard q fitting refl refl (record { avg = da; res = dr; out = dm }) k i hk (rw (all_samples n) hi)))
+      (λ k i hk hi. rw (all_samples n) at (uncut_standard q (channel_fits h c avg res la lr) refl refl (record { avg = da; res = dr; out = dm }) k i hk (rw (all_samples n) hi)))
 
 -- ---- the channels of a range
 range_standard : (h : Bool) (cs : List Channel) (avgs ress : List (List ℤ)) → Shaped (map (average h) cs) avgs → Shaped (map (residual h) cs) ress

@@ -4,3 +4,8 @@ pub mod OneChannel
 pub mod OneStep
 pub mod Whole
 pub mod AsStandard
+pub mod Marks
+pub mod Each
+pub mod Other
+pub mod Untouched
+pub mod Witness

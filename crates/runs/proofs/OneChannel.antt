@@ -3,8 +3,10 @@
 use mathlib.Core.Path.{◌≡◌, refl, sym, ◌∙◌}
 use mathlib.Core.Bool.{Bool, true, false}
 use mathlib.Core.List.{List, [], ◌∷◌}
+use mathlib.Core.Logic.{inl}
 use Prim.Native.Nat.{ℕ, ◌*◌}
 use native.Mathlib.Nat.{mul_comm}
+use native.Mathlib.Omega.{arith}
 use lib.IntN.{ℤ}
 use lib.ListN.{length}
 use Rattle.std.proofs.lemmas.List.Elements.{All-nil, All-cons, All-head, All-tail}
@@ -15,7 +17,7 @@ use Rattle.list.specs.Lists as Lists
 use Rattle.list.specs.Lists.{halved, rest, sided, average, residual}
 use Rattle.list.specs.Tables.{map}
 use Rattle.list.proofs.Totals.{raised_samples}
-use Rattle.line.specs.Uncut.{squeeze}
+use Rattle.line.specs.Uncut.{squeeze, Fitting}
 use Rattle.line.specs.Forward.{average_count, residual_count}
 use Rattle.line.proofs.Outputs.{uncut_length}
 use Rattle.line.proofs.Sampled as Sampled
@@ -46,6 +48,19 @@ unfolding Lists.residual
 residual_samples h c = raised_samples h (sided rest h c) ∙ sided_samples rest h c
 
 -- ---- one channel
+-- an average and a residual of the step's sizes fit
+pub channel_fits : (h : Bool) (c : Channel) (avg res : List ℤ) → length avg ≡ samples (average h c) → length res ≡ samples (residual h c)
+    → Fitting (squeeze h (lines_of h c) (average_count (size_of h c)) (residual_count (size_of h c)) avg res [] [])
+channel_fits h c avg res la lr =
+    record {
+      low = omega arith;
+      high = omega arith;
+      avg_length = la ∙ average_samples h c;
+      res_length = lr ∙ residual_samples h c;
+      next_length = inl refl;
+      prev_length = inl refl;
+    }
+
 pub back_length : (h : Bool) (c : Channel) (avg res : List ℤ) → length (channel_back h c avg res) ≡ samples c
 unfolding channel_back
 back_length h c avg res =

@@ -279,6 +279,29 @@ module _ (s : Step) (cs : List Channel) (inside : s.begin + s.number ≤ length 
       → Shaped (averages s cs) (take s.number (drop s.begin ps)) × Shaped (residuals s cs) (residual_parts s cs (drop (s.begin + s.number) ps))
   step_shapes ps h f = shapes_in ps (steps ps h f)
 
+  -- the range among the parts has its shape, and among the parts that the step leaves stand its averages and residuals
+  pub record Reads (ps : List (List ℤ)) : Type 0 where
+    pub shape : Shaped (range s cs) (take s.number (drop s.begin ps))
+    pub averages : take s.number (drop s.begin (forward_parts s cs ps)) ≡ each (channel_averages s.horizontal) (range s cs) (take s.number (drop s.begin ps))
+    pub residuals : residual_parts s cs (drop (s.begin + s.number) (forward_parts s cs ps))
+        ≡ each (channel_residuals s.horizontal) (range s cs) (take s.number (drop s.begin ps))
+
+  reads : (ps : List (List ℤ)) (p : Pieces ps) → Reads ps
+  reads ps p =
+      let lb = long_before p.qb p.shape_b in
+      let la = long_made (average s.horizontal) (qa ps p) (shape_qa ps p) in
+      let lr = long_made (residual s.horizontal) (qs ps p) (shape_qs ps p) in
+      let e : take s.number (drop s.begin ps) ≡ p.qr = rw p.whole (middle p.qb p.qr lb (long_range p.qr p.shape_r) p.qz) in
+      let v = joined s.inplace (qs ps p) p.qz in
+      record {
+        shape = rw e p.shape_r;
+        averages = rw (forward_pieces ps p, e) (middle p.qb (qa ps p) lb la v);
+        residuals = rw (forward_pieces ps p, e, skip p.qb (qa ps p) lb la v) (residuals_in p.qb (qa ps p) lb la (qs ps p) p.qz lr (long_after p.qz p.shape_z));
+      }
+
+  pub step_reads : (ps : List (List ℤ)) → Shaped cs ps → AllSamples ps → Reads ps
+  step_reads ps h f = reads ps (pieces ps h f)
+
   -- ---- on slices
   module _ (xs : List ℤ) (long : length xs ≡ total cs) (f : Samples xs) where
     the_pieces : Pieces (parts cs xs)
@@ -292,11 +315,13 @@ module _ (s : Step) (cs : List Channel) (inside : s.begin + s.number ≤ length 
     unfolding step_forward
     forward_samples = joined_samples (forward_parts s cs (parts cs xs)) (forward_all (parts cs xs) the_pieces)
 
+    pub forward_again : parts (stepped s cs) (step_forward s cs xs) ≡ forward_parts s cs (parts cs xs)
+    unfolding step_forward
+    forward_again = parts_joined (stepped s cs) (forward_parts s cs (parts cs xs)) (forward_shaped (parts cs xs) the_pieces)
+
     pub step_again : step_back s cs (step_forward s cs xs) ≡ xs
-    unfolding step_back step_forward
-    step_again =
-        rw (parts_joined (stepped s cs) (forward_parts s cs (parts cs xs)) (forward_shaped (parts cs xs) the_pieces), back_forward (parts cs xs) the_pieces)
-        (joined_parts cs xs long)
+    unfolding step_back
+    step_again = rw (forward_again, back_forward (parts cs xs) the_pieces) (joined_parts cs xs long)
 
   module _ (xs : List ℤ) (long : length xs ≡ total (stepped s cs)) (f : Samples xs) where
     the_steps : Steps (parts (stepped s cs) xs)

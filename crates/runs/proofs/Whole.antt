@@ -12,7 +12,7 @@ use Rattle.runs.specs.Claim.{Fills, ExactlyOne}
 use Rattle.runs.proofs.Taken.{by_taken, taken_inside}
 use Rattle.runs.proofs.OneStep.{forward_length, forward_samples, step_again, back_length, back_samples, back_again}
 
-forward_fills : (s : Step) (cs : List Channel) (xs : List ℤ) → is_taken s cs ≡ true → Fills cs xs → Fills (stepped s cs) (step_forward s cs xs)
+pub forward_fills : (s : Step) (cs : List Channel) (xs : List ℤ) → is_taken s cs ≡ true → Fills cs xs → Fills (stepped s cs) (step_forward s cs xs)
 forward_fills s cs xs e f =
     let i = taken_inside s cs e in
     record { long = forward_length s cs i xs f.long f.samples; samples = forward_samples s cs i xs f.long f.samples }

@@ -1,5 +1,5 @@
 -- Whole runs (document 01, "Whole runs"): a step back and forward on the samples of a list, and a list of steps of any length. Definitions only.
-use Rattle.std.specs.Prelude.{Bool, cond, List, [], ◌∷◌, ◌++◌, ℕ, ◌+◌, ◌-◌, eqb, ℤ, length, take, drop}
+use Rattle.std.specs.Prelude.{Bool, cond, List, [], ◌∷◌, ◌++◌, ℕ, ◌+◌, ◌-◌, eqb, ltb, ℤ, length, take, drop}
 use Rattle.channel.specs.declared.Channel.{Channel}
 use Rattle.list.specs.declared.Step.{Step}
 use Rattle.list.specs.Lists.{range, stepped}
@@ -74,6 +74,10 @@ forward_parts s cs ps =
     ++ cond s.inplace
     (each (channel_residuals s.horizontal) (range s cs) (take s.number (drop s.begin ps)) ++ drop (s.begin + s.number) ps)
     (drop (s.begin + s.number) ps ++ each (channel_residuals s.horizontal) (range s cs) (take s.number (drop s.begin ps))))
+
+-- where what stood at p stands after a step: an average where its channel stood, and in place the residuals move on what is behind the range
+unfoldable pub place_after : Step → ℕ → ℕ
+place_after s p = cond (ltb p (s.begin + s.number)) p (cond s.inplace (p + s.number) p)
 
 -- a step taken by a list, on slices: from the samples of the list after it to those before it, and the other way
 unfoldable pub step_back : Step → List Channel → List ℤ → List ℤ
