@@ -1,4 +1,5 @@
--- A step back on one part a channel (`back_parts` of crate runs), part by part: before the range, in it, and behind it. Assumes nothing.
+-- A step back on one part a channel (`back_parts` of crate runs), part by part: before the range, in it, and behind it; and its mark by the channels of
+-- the range. Assumes nothing.
 use mathlib.Core.Path.{◌≡◌, refl, sym, ap, ◌∙◌}
 use mathlib.Core.Bool.{Bool, true, false, cond}
 use mathlib.Core.List.{List, [], ◌∷◌, ◌++◌}
@@ -7,6 +8,8 @@ use native.Mathlib.Omega.{arith}
 use lib.IntN.{ℤ}
 use lib.ListN.{length, get_or, take, drop, length-append, length-drop}
 use lib.Seq.{length-take-le, get_or-take, get_or-drop}
+use Rattle.range.specs.Range.{some}
+use Rattle.range.proofs.Some.{some_cong}
 use Rattle.channel.specs.declared.Channel.{Channel}
 use Rattle.channel.specs.Channel.{samples}
 use Rattle.list.specs.declared.Step.{Step}
@@ -16,6 +19,8 @@ use Rattle.list.proofs.Entries.{length_range}
 use Rattle.list.proofs.Maps.{left_at, right_at}
 use Rattle.places.specs.Places.{residuals_at}
 use Rattle.runs.specs.Runs.{channel_back, all_back_by, behind, residual_parts, other_parts, back_parts}
+use Rattle.runs.specs.Marks.{channel_marked, step_marked}
+use Rattle.runs.proofs.Each.{range_some}
 use Rattle.runs.proofs.Shapes.{Shaped}
 
 -- ---- parts with the lengths of a list's channels
@@ -94,6 +99,13 @@ module _ (s : Step) (cs : List Channel) (ps : List (List ℤ)) (inside : s.begin
       let z : s.begin + s.number + (behind s cs + i) ≡ length cs + i = omega arith in
       get_or-drop (behind s cs) rest i [] ∙ get_or-drop (s.begin + s.number) ps (behind s cs + i) [] ∙ rw z
 
+  -- what channel i of the range is made of
+  channel_at : (i : ℕ) → i < s.number → channel_of (range s cs) i ≡ channel_of cs (s.begin + i)
+  channel_at i h = get_or-take s.number (drop s.begin cs) i _ h ∙ get_or-drop s.begin cs i _
+
+  average_at : (i : ℕ) → i < s.number → get_or vs i [] ≡ get_or ps (s.begin + i) []
+  average_at i h = get_or-take s.number (drop s.begin ps) i [] h ∙ get_or-drop s.begin ps i []
+
   pub back_range : (i : ℕ) → i < s.number
       → get_or (back_parts s cs ps) (s.begin + i) [] ≡ channel_back s.horizontal (channel_of cs (s.begin + i)) (get_or ps (s.begin + i) []) (get_or ps (residuals_at (length cs) s + i) [])
   unfolding back_parts
@@ -103,13 +115,18 @@ module _ (s : Step) (cs : List Channel) (ps : List (List ℤ)) (inside : s.begin
       right_at (take s.begin ps) _ s.begin (s.begin + i) [] front_long (omega arith)
       ∙ rw z (left_at made (other_parts s cs rest) s.number i [] made_long h
       ∙ all_at (channel_back s.horizontal) (range s cs) vs (residual_parts s cs rest) vs_long (rs_long s.inplace) i (omega arith)
-      ∙ rw (
-        get_or-take s.number (drop s.begin cs) i (record { width = 0; height = 0; hshift = 0; vshift = 0 }) h,
-        get_or-drop s.begin cs i (record { width = 0; height = 0; hshift = 0; vshift = 0 }),
-        get_or-take s.number (drop s.begin ps) i [] h,
-        get_or-drop s.begin ps i [],
-        rs_at s.inplace refl i h,
-      ))
+      ∙ rw (channel_at i h, average_at i h, rs_at s.inplace refl i h))
+
+  -- the mark of it
+  abbrev pub channel_at_marked : ℕ → Bool
+  channel_at_marked i =
+      channel_marked s.horizontal (channel_of cs (s.begin + i)) (get_or ps (s.begin + i) []) (get_or ps (residuals_at (length cs) s + i) [])
+
+  pub step_by_channels : step_marked s cs ps ≡ some channel_at_marked s.number
+  unfolding step_marked
+  step_by_channels =
+      range_some s.horizontal (range s cs) vs (residual_parts s cs rest) vs_long (rs_long s.inplace)
+      ∙ rw range_long (some_cong _ channel_at_marked s.number (λ i h. rw (channel_at i h, average_at i h, rs_at s.inplace refl i h)))
 
   others_at : (b : Bool) (i : ℕ) → i < length cs - (s.begin + s.number) → get_or (cond b (drop s.number rest) (take (behind s cs) rest)) i [] ≡ get_or ps (s.begin + s.number + i + cond b s.number 0) []
   others_at true i h =

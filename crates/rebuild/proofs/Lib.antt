@@ -8,3 +8,4 @@ pub mod StepsBack
 pub mod Settling
 pub mod Ends
 pub mod Outcome
+pub mod Marks

@@ -1,5 +1,5 @@
 -- A channel of an accepted list as one tile without outer lines: the call is accepted, and leaves the channel that average and residual make
--- (`channel_back` of crate runs). Assumes nothing.
+-- (`channel_back` of crate runs) and its mark. Assumes nothing.
 use mathlib.Core.Path.{◌≡◌, refl, sym, ◌∙◌}
 use mathlib.Core.Bool.{Bool, true, false}
 use mathlib.Core.List.{List, []}
@@ -17,9 +17,10 @@ use Rattle.line.proofs.ThereAndBack.{all_samples}
 use Rattle.places.specs.declared.Place.{Place}
 use Rattle.places.specs.Places.{bare, area, average_place, residual_place}
 use Rattle.tile.specs.declared.Sides.{Sides}
-use Rattle.tile.specs.Call.{sides, call_on, after}
-use Rattle.tile.proofs.Accepted.{Arguments, accepted_after}
+use Rattle.tile.specs.Call.{sides, call_on, after, call_mark}
+use Rattle.tile.proofs.Accepted.{Arguments, accepted_after, accepted_mark}
 use Rattle.runs.specs.Runs.{lines_of, size_of, channel_back}
+use Rattle.runs.specs.Marks.{channel_marked}
 use Rattle.runs.proofs.OneChannel.{samples_by, average_samples, residual_samples}
 use Rattle.rebuild.specs.Run.{sides_of, ChannelFits}
 
@@ -96,8 +97,10 @@ module _ (h : Bool) (p : Place) (avg res out : List ℤ) (f : ChannelFits h p av
       }
 
   pub one_tile : (a r o : Sides) → a ≡ sides_of (average_place h p) → r ≡ sides_of (residual_place h p) → o ≡ sides_of p
-      → after (call_on h a r o avg res [] [] out) ≡ channel_back h c avg res
-  unfolding channel_back
+      → (after (call_on h a r o avg res [] [] out) ≡ channel_back h c avg res) × (call_mark (call_on h a r o avg res [] [] out) ≡ channel_marked h c avg res)
+  unfolding channel_back channel_marked
   one_tile a r o ea er eo =
+      let m = average_count (size_of h c) in
+      let n = residual_count (size_of h c) in
       rw (ea, er, eo, average_sides h p, residual_sides h p, channel_sides h c)
-      (accepted_after h (lines_of h c) (average_count (size_of h c)) (residual_count (size_of h c)) avg res [] [] out arguments)
+      (accepted_after h (lines_of h c) m n avg res [] [] out arguments, accepted_mark h (lines_of h c) m n avg res [] [] out arguments)

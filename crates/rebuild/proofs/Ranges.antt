@@ -94,14 +94,14 @@ module _ (s : Step) (qs : List Place) (sources : Sources) (pyramid picture₀ wo
     residual_at_lem : residuals_at (length qs) s + i < length qs + s.number
     residual_at_lem = let n = residuals_from_lem s qs f.inside in omega arith
 
-    avg_still : lying_in (source_at sources (s.begin + i)) (area (average_place s.horizontal (place_of qs (s.begin + i)))) pyramid (other (is_odd (place_of qs (s.begin + i)).slot) picture work)
+    pub avg_still : lying_in (source_at sources (s.begin + i)) (area (average_place s.horizontal (place_of qs (s.begin + i)))) pyramid (other (is_odd (place_of qs (s.begin + i)).slot) picture work)
         ≡ held s qs sources pyramid picture₀ work₀ (s.begin + i)
     avg_still =
         let e = step_average s qs f.inside (s.begin + i) (omega arith) (omega arith) in
         rw (← (other_slice (place_of qs (s.begin + i)).slot picture work))
         (rw e at (still (s.begin + i) average_at_lem (root_average s qs f.inside (s.begin + i) (omega arith))) ∙ rw e)
 
-    res_still : lying_in (source_at sources (residuals_at (length qs) s + i)) (area (residual_place s.horizontal (place_of qs (s.begin + i)))) pyramid (other (is_odd (place_of qs (s.begin + i)).slot) picture work)
+    pub res_still : lying_in (source_at sources (residuals_at (length qs) s + i)) (area (residual_place s.horizontal (place_of qs (s.begin + i)))) pyramid (other (is_odd (place_of qs (s.begin + i)).slot) picture work)
         ≡ held s qs sources pyramid picture₀ work₀ (residuals_at (length qs) s + i)
     res_still =
         let e = step_residual s qs f.inside i h in

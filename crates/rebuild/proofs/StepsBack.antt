@@ -79,7 +79,7 @@ module _ (l : ChannelList) (s : Steps) (pyramid : List ℤ) (f : RunFits l s pyr
   abbrev old : List (List ℤ)
   old = parts (stepped st cs) xs
 
-  in_range : st.begin + st.number ≤ length qs
+  pub in_range : st.begin + st.number ≤ length qs
   in_range = step_inside l s pyramid f m h
 
   after_long : length (places_at l s (m + 1)) ≡ length qs + st.number
@@ -91,7 +91,7 @@ module _ (l : ChannelList) (s : Steps) (pyramid : List ℤ) (f : RunFits l s pyr
   at_home_lem : (j : ℕ) → j < length qs + st.number → made_at sources j ≡ true → start_at sources j ≡ (place_of ps j).home
   at_home_lem j b e = rw (places_more l s m) at (w.at_home_lem j (let n = after_long in omega arith) e)
 
-  here : (j : ℕ) → j < length qs + st.number → held st qs sources pyramid picture work j ≡ get_or old j []
+  pub here : (j : ℕ) → j < length qs + st.number → held st qs sources pyramid picture work j ≡ get_or old j []
   here j b = rw (places_more l s m, list_more l s m) at (w.here j (let n = after_long in omega arith))
 
   range_fits : RangeFits st qs sources pyramid picture work
@@ -119,16 +119,16 @@ module _ (l : ChannelList) (s : Steps) (pyramid : List ℤ) (f : RunFits l s pyr
   samples_are : samples_at l s m pyramid ≡ step_back st cs xs
   samples_are = rw (table_rest (step_at s) m (step_count s) h, eq-eqb (judge_step st cs) 0 (step_judged l s pyramid f m h))
 
-  cs_long : length qs ≡ length cs
+  pub cs_long : length qs ≡ length cs
   cs_long = (places_sided l s pyramid f m (omega arith)).long
 
-  old_count : length old ≡ length cs + st.number
+  pub old_count : length old ≡ length cs + st.number
   old_count = parts_count (stepped st cs) _ ∙ stepped_length st cs (let n = cs_long in let i = in_range in omega arith)
 
   abbrev new : List (List ℤ)
   new = back_parts st cs old
 
-  cs_range : st.begin + st.number ≤ length cs
+  pub cs_range : st.begin + st.number ≤ length cs
   cs_range = let n = cs_long in let i = in_range in omega arith
 
   -- entry k behind or before the range comes from entry j

@@ -1,6 +1,7 @@
 -- What the parts of a plan run ask of their callers and give them: a channel, a step's range, a step, a run of steps. Definitions only.
 use Rattle.std.specs.Prelude.{◌≡◌, Bool, true, false, cond, List, [], ◌∷◌, ◌⊎◌, ℕ, ◌+◌, ◌-◌, ◌<◌, ◌≤◌, min, ℤ, length, get_or, take}
 use Rattle.numbers.specs.Numbers.{max_samples}
+use Rattle.range.specs.Range.{some}
 use Rattle.channel.specs.declared.Channel.{Channel}
 use Rattle.channel.specs.Channel.{sides_fit, samples}
 use Rattle.list.specs.declared.Step.{Step}
@@ -18,6 +19,7 @@ use Rattle.places.specs.Laid.{Laid, part, written}
 use Rattle.tile.specs.declared.Sides.{Sides}
 use Rattle.runs.specs.Parts.{parts}
 use Rattle.runs.specs.Runs.{channel_back, rebuilt}
+use Rattle.runs.specs.Marks.{channel_marked, run_marked}
 use Rattle.rebuild.specs.declared.Source.{Source}
 use Rattle.rebuild.specs.declared.Source.TheVariants.{Pyramid, Home}
 use Rattle.rebuild.specs.declared.Sources.{Sources}
@@ -61,6 +63,11 @@ lying_in source n pyramid beside = part (start_of source) n (cond (made_of sourc
 abbrev pub channel_from : Bool → Place → Source → Source → List ℤ → List ℤ → List ℤ
 channel_from horizontal p avg res pyramid beside =
     channel_back horizontal (bare p) (lying_in avg (area (average_place horizontal p)) pyramid beside) (lying_in res (area (residual_place horizontal p)) pyramid beside)
+
+-- and its mark
+abbrev pub channel_from_marked : Bool → Place → Source → Source → List ℤ → List ℤ → Bool
+channel_from_marked horizontal p avg res pyramid beside =
+    channel_marked horizontal (bare p) (lying_in avg (area (average_place horizontal p)) pyramid beside) (lying_in res (area (residual_place horizontal p)) pyramid beside)
 
 pub record PutFits (horizontal : Bool) (p : Place) (avg res : Source) (pyramid beside out : List ℤ) : Type 0 where
   pub average_in : start_of avg + area (average_place horizontal p) ≤ length pyramid
@@ -109,6 +116,14 @@ pub record Ranged (s : Step) (qs : List Place) (sources : Sources) (pyramid pict
   pub others_kept : (j : ℕ) → j < length qs + s.number → ((i : ℕ) → i < s.number → root (length qs) s j ≡ s.begin + i → ⊥)
       → at_home (place_of (step_places s qs) j) picture' work' ≡ at_home (place_of (step_places s qs) j) picture work
 
+-- the mark of channel i of the range, and that of some channel of it
+abbrev pub held_marked : Step → List Place → Sources → List ℤ → List ℤ → List ℤ → ℕ → Bool
+held_marked s qs sources pyramid picture work i =
+    channel_marked s.horizontal (bare (place_of qs (s.begin + i))) (held s qs sources pyramid picture work (s.begin + i)) (held s qs sources pyramid picture work (residuals_at (length qs) s + i))
+
+abbrev pub range_held_marked : Step → List Place → Sources → List ℤ → List ℤ → List ℤ → Bool
+range_held_marked s qs sources pyramid picture work = some (held_marked s qs sources pyramid picture work) s.number
+
 -- ---- the channels of a list one after the other in the pyramid
 abbrev pub Lying : Places → Sources → Type 0
 Lying p sources = (j : ℕ) → j < min p.count max_channels → source_at sources j ≡ Pyramid (get_or (starts_from 0 (areas_in p)) j 0)
@@ -137,7 +152,8 @@ abbrev pub places_all : List Step → List Place → List Place
 places_all [] ps = ps
 places_all (s ∷ ss) ps = places_all ss (step_places s ps)
 
--- how many steps a plan means, the first m of them, the list and the places that they leave, and the samples of that list
+-- how many steps a plan means, the first m of them, the list and the places that they leave, the samples of that list, and the mark of the steps behind
+-- them
 abbrev pub step_count : Steps → ℕ
 step_count s = min s.count max_steps
 
@@ -152,6 +168,9 @@ places_at l s m = places_all (first_steps s m) (places_from 0 (channels l))
 
 abbrev pub samples_at : ChannelList → Steps → ℕ → List ℤ → List ℤ
 samples_at l s m pyramid = rebuilt (table (step_at s) m (step_count s - m)) (list_at l s m) pyramid
+
+abbrev pub marked_at : ChannelList → Steps → ℕ → List ℤ → Bool
+marked_at l s m pyramid = run_marked (table (step_at s) m (step_count s - m)) (list_at l s m) pyramid
 
 -- each of the first n steps fits the places that those before it leave
 abbrev pub StepsFit : ℕ → Steps → List Place → Type 0

@@ -2,24 +2,28 @@
 // first. A channel is made at its home (crate places), in the picture or in the
 // work slice by turns, from an average and a residual that lie in the pyramid or,
 // if a step has made them, at their homes in the other slice: a step moves no other
-// sample. Total: the questions to list and plan, then the one to the slices'
-// lengths, each refusal with its number and both lent slices untouched.
+// sample. It tells whether a step leaves the plain range. Total: the questions to list
+// and plan, then the one to the slices' lengths, each refusal with its number and both
+// lent slices untouched.
 #![tactic(auto)]
 
-ghost use Rattle.std.specs.Prelude.{◌≡◌, cond, ◌+◌, ◌<◌, ◌≤◌, length, min};
+ghost use Rattle.std.specs.Prelude.{◌≡◌, cond, ◌&&◌, ◌+◌, ◌<◌, ◌≤◌, length, min};
+ghost use Rattle.range.specs.Range.{mark_of};
 ghost use Rattle.numbers.specs.Numbers.{answer_of};
 ghost use Rattle.list.specs.Lists.{max_channels, channels};
 ghost use Rattle.plan.specs.Steps as Spec;
 ghost use Rattle.places.specs.Places.{is_odd, bare, area, residuals_at, places_in, places_from};
 ghost use Rattle.places.specs.Laid.{part, written};
 ghost use Rattle.runs.specs.Runs.{channel_back, rebuilt};
+ghost use Rattle.runs.specs.Marks.{channel_marked, run_marked};
 ghost use Rattle.rebuild.specs.Rebuild as Rebuild;
-ghost use Rattle.rebuild.specs.Run.{sides_of, start_of, made_of, lying_in, channel_from, other, ChannelFits, PutFits, Wrote, RangeFits, Ranged, Lying, Marked, Closed, TakenBack, places_all, first_steps, StepsFit, RunFits, Back, SettleFits, Settled};
+ghost use Rattle.rebuild.specs.Run.{sides_of, start_of, made_of, lying_in, channel_from, channel_from_marked, other, ChannelFits, PutFits, Wrote, RangeFits, Ranged, range_held_marked, Lying, Marked, Closed, TakenBack, places_all, first_steps, StepsFit, RunFits, Back, SettleFits, Settled};
 
 use list::{ChannelList, Step};
 use numbers::Refusal;
 use places::{Place, Places, Slot};
 use plan::{Form, Steps};
+use range::Marking;
 use tile::Sides;
 
 // The sides of a place as those of a tile: no `From`, since both types are of other
@@ -33,16 +37,22 @@ fn sides(place: Place) -> Sides
     }
 }
 
-// A channel from its average and its residual: one tile without outer lines, which
-// is never refused.
-fn channel_back(place: Place, horizontal: bool, avg: &[i32], res: &[i32], out: &mut [i32])
+// A channel from its average and its residual, and its mark: one tile without outer
+// lines, which is never refused.
+fn channel_back<M: Marking>(
+    place: Place,
+    horizontal: bool,
+    avg: &[i32],
+    res: &[i32],
+    out: &mut [i32],
+) -> bool
     requires { ChannelFits horizontal place avg.now res.now out.old }
-    ensures { out.new ≡ channel_back horizontal (bare place) avg.now res.now }
+    ensures { (out.new ≡ channel_back horizontal (bare place) avg.now res.now) × (result ≡ (M.marks && channel_marked horizontal (bare place) avg.now res.now)) }
 {
     let average = sides(place.average(horizontal));
     let residual = sides(place.residual(horizontal));
     let none = &avg[0..0];
-    let _ = tile::squeeze_tile(
+    let told = tile::squeeze_tile::<M>(
         horizontal,
         average,
         residual,
@@ -53,6 +63,7 @@ fn channel_back(place: Place, horizontal: bool, avg: &[i32], res: &[i32], out: &
         none,
         out,
     );
+    told.unwrap_or(false)
 }
 
 // Where an average or a residual lies, from a start on: in the pyramid, or at its
@@ -87,8 +98,8 @@ impl Source {
     }
 }
 
-// A channel to its home in `out`, from its average and its residual.
-fn put_channel<'a>(
+// A channel to its home in `out`, from its average and its residual, and its mark.
+fn put_channel<'a, M: Marking>(
     place: Place,
     horizontal: bool,
     avg: Source,
@@ -96,21 +107,21 @@ fn put_channel<'a>(
     pyramid: &'a [i32],
     other: &'a [i32],
     out: &mut [i32],
-)
+) -> bool
     requires { PutFits horizontal place avg res pyramid.now other.now out.old }
-    ensures { out.new ≡ written place.home (channel_from horizontal place avg res pyramid.now other.now) out.old }
+    ensures { (out.new ≡ written place.home (channel_from horizontal place avg res pyramid.now other.now) out.old) × (result ≡ (M.marks && channel_from_marked horizontal place avg res pyramid.now other.now)) }
 {
     let a = avg.lying(place.average(horizontal).area(), pyramid, other);
     let r = res.lying(place.residual(horizontal).area(), pyramid, other);
     let end = place.home + place.area();
-    channel_back(place, horizontal, a, r, &mut out[place.home..end]);
+    channel_back::<M>(place, horizontal, a, r, &mut out[place.home..end])
 }
 
 // The same where the place's slot says whether it goes to the work slice or to the
 // picture; what a step has made of it stands in the other of the two. Here and below
 // the slices stay parameters: a struct that holds a `&mut` is no plainer, since each
 // contract then has to say that it is still the caller's.
-fn make_channel(
+fn make_channel<M: Marking>(
     place: Place,
     horizontal: bool,
     avg: Source,
@@ -118,16 +129,14 @@ fn make_channel(
     pyramid: &[i32],
     picture: &mut [i32],
     work: &mut [i32],
-)
+) -> bool
     requires { PutFits horizontal place avg res pyramid.now picture.old work.old }
-    ensures { Wrote (is_odd place.slot) place.home (channel_from horizontal place avg res pyramid.now (other (is_odd place.slot) picture.old work.old)) picture.old work.old picture.new work.new }
+    ensures { Wrote (is_odd place.slot) place.home (channel_from horizontal place avg res pyramid.now (other (is_odd place.slot) picture.old work.old)) picture.old work.old picture.new work.new × (result ≡ (M.marks && channel_from_marked horizontal place avg res pyramid.now (other (is_odd place.slot) picture.old work.old))) }
 {
     match place.slot {
-        Slot::Odd => {
-            put_channel(place, horizontal, avg, res, pyramid, picture, work);
-        }
+        Slot::Odd => put_channel::<M>(place, horizontal, avg, res, pyramid, picture, work),
         Slot::Unmade | Slot::Even => {
-            put_channel(place, horizontal, avg, res, pyramid, work, picture);
+            put_channel::<M>(place, horizontal, avg, res, pyramid, work, picture)
         }
     }
 }
@@ -179,28 +188,30 @@ impl Sources {
 }
 
 // The channels of a step's range, each at its home, from their averages and
-// residuals; the places are those of the list before the step, the sources those
-// of the list after it.
-fn make_range(
+// residuals, and whether one of them has a mark; the places are those of the list
+// before the step, the sources those of the list after it.
+fn make_range<M: Marking>(
     places: &Places,
     step: Step,
     sources: &Sources,
     pyramid: &[i32],
     picture: &mut [i32],
     work: &mut [i32],
-)
+) -> bool
     requires { RangeFits step (places_in places.now) sources.now pyramid.now picture.old work.old }
-    ensures { Ranged step (places_in places.now) sources.now pyramid.now picture.old work.old picture.new work.new }
+    ensures { Ranged step (places_in places.now) sources.now pyramid.now picture.old work.old picture.new work.new × (result ≡ (M.marks && range_held_marked step (places_in places.now) sources.now pyramid.now picture.old work.old)) }
 {
     let begin = step.begin as usize;
     let number = step.number as usize;
     let residuals = places.residuals_at(step);
+    let mut outside = false;
     for i in 0..number {
         let place = places.places[begin + i];
         let avg = sources.entries[begin + i];
         let res = sources.entries[residuals + i];
-        make_channel(place, step.horizontal, avg, res, pyramid, picture, work);
+        outside |= make_channel::<M>(place, step.horizontal, avg, res, pyramid, picture, work);
     }
+    outside
 }
 
 // The places that the first n steps of a plan leave.
@@ -214,26 +225,27 @@ fn take_steps(places: &mut Places, list: &ChannelList, steps: &Steps, n: usize)
     }
 }
 
-// A step taken back, at the places of the list before it: its range is made, and
-// its residuals are no entries any more.
-fn take_back(
+// A step taken back, at the places of the list before it, and its mark: its range is
+// made, and its residuals are no entries any more.
+fn take_back<M: Marking>(
     places: &Places,
     step: Step,
     sources: &mut Sources,
     pyramid: &[i32],
     picture: &mut [i32],
     work: &mut [i32],
-)
+) -> bool
     requires { RangeFits step (places_in places.now) sources.old pyramid.now picture.old work.old }
-    ensures { TakenBack step (places_in places.now) sources.old pyramid.now picture.old work.old sources.new picture.new work.new }
+    ensures { TakenBack step (places_in places.now) sources.old pyramid.now picture.old work.old sources.new picture.new work.new × (result ≡ (M.marks && range_held_marked step (places_in places.now) sources.old pyramid.now picture.old work.old)) }
 {
-    make_range(places, step, sources, pyramid, picture, work);
+    let outside = make_range::<M>(places, step, sources, pyramid, picture, work);
     sources.mark(step.begin as usize, step.end(), places);
     sources.close(
         places.count,
         places.residuals_at(step),
         step.number as usize,
     );
+    outside
 }
 
 // The channels that no step has made, to their homes in the picture: the others stand
@@ -250,38 +262,46 @@ fn settle(places: &Places, sources: &Sources, pyramid: &[i32], picture: &mut [i3
 
 // Accepted steps on a pyramid of the list that they leave, last first, each at the
 // places that those before it leave: all channels lie in the pyramid first, one
-// after the other.
-fn run(list: &ChannelList, steps: &Steps, pyramid: &[i32], picture: &mut [i32], work: &mut [i32])
+// after the other. Tells whether one of the steps has a mark.
+fn run<M: Marking>(
+    list: &ChannelList,
+    steps: &Steps,
+    pyramid: &[i32],
+    picture: &mut [i32],
+    work: &mut [i32],
+) -> bool
     requires { RunFits list.now steps.now pyramid.now × (length picture.old ≡ length pyramid.now) × (length work.old ≡ length pyramid.now) }
-    ensures { picture.new ≡ rebuilt (Spec.steps steps.now) (channels list.now) pyramid.now }
+    ensures { (picture.new ≡ rebuilt (Spec.steps steps.now) (channels list.now) pyramid.now) × (result ≡ (M.marks && run_marked (Spec.steps steps.now) (channels list.now) pyramid.now)) }
 {
     let count = steps.len();
     let mut places = Places::empty();
     take_steps(&mut places, list, steps, count);
     let mut sources = Sources::new();
     sources.lay(&places);
+    let mut outside = false;
     for m in (0..count).rev() {
         take_steps(&mut places, list, steps, m);
-        take_back(&places, steps.step(m), &mut sources, pyramid, picture, work);
+        outside |= take_back::<M>(&places, steps.step(m), &mut sources, pyramid, picture, work);
     }
     settle(&places, &sources, pyramid, picture);
+    outside
 }
 
-// The picture that a pyramid holds under a plan.
-pub fn rebuild(
+// The picture that a pyramid holds under a plan, and the run's mark.
+pub fn rebuild<M: Marking>(
     form: &Form,
     pyramid: &[i32],
     picture: &mut [i32],
     work: &mut [i32],
-) -> Result<(), Refusal>
-    ensures { (answer_of result ≡ Rebuild.answer_of form.now.version form.now.list form.now.steps pyramid.now picture.old work.old) × (picture.new ≡ Rebuild.picture_after form.now.version form.now.list form.now.steps pyramid.now picture.old work.old) × (work.new ≡ Rebuild.work_after form.now.version form.now.list form.now.steps pyramid.now picture.old work.old) }
+) -> Result<bool, Refusal>
+    ensures { (answer_of result ≡ Rebuild.answer_of form.now.version form.now.list form.now.steps pyramid.now picture.old work.old) × (picture.new ≡ Rebuild.picture_after form.now.version form.now.list form.now.steps pyramid.now picture.old work.old) × (work.new ≡ Rebuild.work_after form.now.version form.now.list form.now.steps pyramid.now picture.old work.old) × (mark_of result ≡ (M.marks && Rebuild.mark form.now.version form.now.list form.now.steps pyramid.now picture.old work.old)) }
 {
     let steps = form.plan()?.steps;
     let total = form.list.total() as usize;
     if !((pyramid.len() == total) & ((picture.len() == total) & (work.len() == total))) {
         return Err(Refusal::Length);
     }
-    run(&form.list, &steps, pyramid, picture, work);
+    let outside = run::<M>(&form.list, &steps, pyramid, picture, work);
     buffer::clear(work);
-    Ok(())
+    Ok(outside)
 }

@@ -1,4 +1,4 @@
--- `take_back` meets its contract: the range made, marked and closed. Assumes nothing.
+-- `take_back` meets its contract: the range made, marked and closed, and what it tells. Assumes nothing.
 use mathlib.Core.Path.{sym}
 use native.Mathlib.Omega.{arith}
 use Rattle.places.proofs.Arrays.{places_length, places_at}
@@ -6,7 +6,7 @@ use Rattle.places.proofs.Steps.{residuals_inside}
 use Rattle.rebuild.proofs.take_back.Goals as goal
 
 pub close-requires : goal.close-requires
-close-requires c =
+close-requires g c =
     let p = c.args.places.now in
     let n = places_length p in
     let f = c.requires in
@@ -15,14 +15,17 @@ close-requires c =
     (omega arith, omega (arith, f.room))
 
 pub returns : goal.returns
-returns c =
+returns g c =
     let p = c.args.places.now in
     let n = places_length p in
-    record {
-      marks = c.mark.new.self;
-      p = p;
-      homes_are = λ j h. sym (places_at p j (omega arith));
-      ranged = c.make_range.ensures;
-      marked = rw c.end.ensures at c.mark.ensures;
-      closed = rw (n, ← c.residuals_at.ensures) c.close.ensures;
-    }
+    let e = c.make_range-outside.ensures in (
+      record {
+        marks = c.mark.new.self;
+        p = p;
+        homes_are = λ j h. sym (places_at p j (omega arith));
+        ranged = e.0;
+        marked = rw c.end.ensures at c.mark.ensures;
+        closed = rw (n, ← c.residuals_at.ensures) c.close.ensures;
+      },
+      e.1,
+    )
