@@ -1,5 +1,6 @@
 -- A list's channels in the picture, before the first step: what they hold one after the other is the picture. Assumes nothing.
 use mathlib.Core.Path.{◌≡◌, refl, sym, ◌∙◌}
+use mathlib.Core.Bool.{Bool, false}
 use mathlib.Core.List.{List, [], ◌∷◌, ◌++◌}
 use Prim.Native.Nat.{ℕ, ◌+◌, ◌*◌, ◌≤◌}
 use native.Mathlib.Omega.{arith}
@@ -44,15 +45,15 @@ held_from picture odds evens at (c ∷ cs) h =
     rw (b, held_from picture odds evens (at + n) cs (omega arith)) (part_more at n (total cs) picture)
 
 -- what the steps start from
-pub first_running : (l : ChannelList) (s : Steps) (picture odds evens : List ℤ) → judge_list l ≡ 0
+pub first_running : (l : ChannelList) (s : Steps) (marks : Bool) (picture odds evens : List ℤ) → judge_list l ≡ 0
     → judge_steps (steps s) (channels l) ≡ 0 → length picture ≡ total (channels l) → Alike picture odds evens
-    → (ps : List Place) → ps ≡ places_from 0 (channels l) → Running (channels l) s picture ps odds evens 0
+    → (ps : List Place) → ps ≡ places_from 0 (channels l) → Running (channels l) s picture marks ps odds evens false 0
 unfolding Questions.total_allowed Laid.part
-first_running l s picture odds evens ok judged long alike ps e =
+first_running l s marks picture odds evens ok judged long alike ps e =
     let fine = list_accepted l ok in
     let t = leb-true (total (channels l)) max_samples fine.samples in
     let h : joined (held picture odds evens (places_from 0 (channels l))) ≡ picture =
     held_from picture odds evens 0 (channels l) (omega arith) ∙ take_all (total (channels l)) picture (omega arith) in
     rw e
-    (running_none (channels l) s picture (places_from 0 (channels l)) odds evens fine judged long (from_sided 0 (channels l))
+    (running_none (channels l) s picture marks (places_from 0 (channels l)) odds evens fine judged long (from_sided 0 (channels l))
     (rw long (from_laid (channels l) t)) alike h)

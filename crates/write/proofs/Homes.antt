@@ -8,6 +8,7 @@ use borrow.Author.Tests.{le-leb}
 use lib.IntN.{ℤ}
 use lib.ListN.{length, get_or, take}
 use Rattle.channel.specs.Channel.{sides_fit}
+use Rattle.range.proofs.Some.{some_cong}
 use Rattle.list.specs.declared.Step.{Step}
 use Rattle.list.specs.Tables.{table, padded, map}
 use Rattle.list.specs.Lists.{max_channels}
@@ -20,7 +21,7 @@ use Rattle.places.specs.Laid.{Laid}
 use Rattle.places.proofs.Arrays.{places_length, places_at}
 use Rattle.places.proofs.Laid.{starts_at}
 use Rattle.runs.specs.Parts.{joined}
-use Rattle.write.specs.Standing.{lying, held, Ranged, Fitting, Squeezed, Full}
+use Rattle.write.specs.Standing.{lying, held, place_marked, places_marked, Ranged, Fitting, Squeezed, Full}
 use Rattle.write.specs.Settled.{Cleared, Starting, settled}
 
 module _ (p : Places) where
@@ -51,6 +52,12 @@ module _ (p : Places) where
         own = λ k a b. rw (places_at p k (omega arith)) (w.own k a b);
         kept = λ q i d. w.kept q i (λ k a b. rw (places_at p k (omega arith)) at (d k a b));
       }
+
+  pub marked_places : (h : Bool) (from n : ℕ) (picture odds evens : List ℤ) → from + n ≤ p.count
+      → places_marked h at from n picture odds evens ≡ places_marked h (place_of ps) from n picture odds evens
+  marked_places h from n picture odds evens l =
+      some_cong (λ i. place_marked h (at (from + i)) picture odds evens) (λ i. place_marked h (place_of ps (from + i)) picture odds evens) n
+      (λ i m. rw (places_at p (from + i) (omega arith)))
 
   -- a step whose range lies inside and whose residuals have room
   pub places_stepped : (s : Step) → s.begin + s.number ≤ length ps → length ps + s.number ≤ max_channels → places_after s p ≡ step_places s ps

@@ -3,6 +3,7 @@ pub mod Putting
 pub mod Lying
 pub mod Squeezing
 pub mod Stepping
+pub mod Marks
 pub mod Running
 pub mod First
 pub mod Moving

@@ -1,6 +1,6 @@
--- A slice of which a part was lent (`written` of crate places): a channel squeezed into the part, or samples copied into it. Assumes nothing.
+-- A slice of which a part was lent (`written` of crate places): a channel squeezed into the part and its mark, or samples copied into it. Assumes nothing.
 use mathlib.Core.Path.{◌≡◌, refl, sym, ap, ◌∙◌}
-use mathlib.Core.Bool.{Bool, true, false, cond, not}
+use mathlib.Core.Bool.{Bool, true, false, cond, not, ◌&&◌}
 use mathlib.Core.List.{List, ◌++◌}
 use Prim.Native.Nat.{ℕ, ◌+◌, ◌-◌, ◌≤◌}
 use native.Mathlib.Omega.{arith}
@@ -15,8 +15,8 @@ use Rattle.channel.proofs.Sides.{fit_sides}
 use Rattle.list.proofs.Totals.{parts_samples}
 use Rattle.buffer.specs.Buffer.{copied}
 use Rattle.buffer.proofs.Overwritten.{copied_all}
-use Rattle.forward.specs.Into.{squeezed_into}
-use Rattle.forward.proofs.Fitted.{squeezed_fit}
+use Rattle.forward.specs.Into.{slices_fit, squeezed_into, marked_into}
+use Rattle.forward.proofs.Fitted.{into_fit, told_fit, fitting}
 use Rattle.places.specs.declared.Place.{Place}
 use Rattle.places.specs.Places.{area, bare}
 use Rattle.places.specs.Laid as Laid
@@ -24,6 +24,7 @@ use Rattle.places.specs.Laid.{part, written}
 use Rattle.places.proofs.Parts.{part_length}
 use Rattle.runs.specs.Runs as Runs
 use Rattle.runs.specs.Runs.{lines_of, size_of}
+use Rattle.runs.specs.Marks.{channel_written_marked}
 use Rattle.runs.proofs.OneChannel.{samples_by, averages_length, residuals_length}
 use Rattle.write.specs.Standing as Standing
 use Rattle.write.specs.Standing.{halves}
@@ -71,20 +72,40 @@ module _ (p : Place) (n : ℕ) (e : n ≡ area p) where
       let o : out ≡ part p.home (area p) from = (rw (c, d) at eo) ∙ copied_all (part p.home (area p) from) (part start (area p) to) (l ∙ sym m) in
       rw d (put_back start (area p) out to (ap length o ∙ l) ∙ ap (λ (ys : List ℤ). written start ys to) o)
 
-  pub channel_put : (h : Bool) (from to out : List ℤ) (c : Channel) (lines size : ℕ) → c ≡ bare p → lines ≡ cond (not h) c.width c.height → size ≡ cond h c.width c.height
-      → sides_fit (bare p) ≡ true → p.home + area p ≤ length from → p.home + area p ≤ length to
-      → out ≡ squeezed_into h lines size (take (p.home + n - p.home) (drop p.home from)) (take (p.home + n - p.home) (drop p.home to))
-      → take p.home to ++ (out ++ drop (p.home + n - p.home) (drop p.home to)) ≡ written p.home (halves h (bare p) (part p.home (area p) from)) to
-  unfolding Laid.part Standing.halves Channel.samples Runs.channel_averages Runs.channel_residuals
-  channel_put h from to out c lines size ec el es fit i j eo =
-      let d = count_so p.home in
-      let by = samples_by h (bare p) in
-      let l = part_length p.home (area p) from i in
-      let m = part_length p.home (area p) to j in
-      let f = fit_lines h (bare p) fit in
-      let u : lines ≡ lines_of h (bare p) = rw ec at el ∙ across h (bare p) in
-      let v : size ≡ size_of h (bare p) = rw ec at es in
-      let o : out ≡ halves h (bare p) (part p.home (area p) from) =
-      rw (d, u, v) at eo
-      ∙ squeezed_fit h (lines_of h (bare p)) (size_of h (bare p)) (part p.home (area p) from) (part p.home (area p) to) f.0 f.1 (l ∙ by) (m ∙ by) in
-      rw d (put_back p.home (area p) out to (ap length o ∙ halves_length h p (part p.home (area p) from)) ∙ ap (λ (ys : List ℤ). written p.home ys to) o)
+  -- the sides, and the parts of both slices
+  module _ (h : Bool) (from to : List ℤ) (c : Channel) (lines size : ℕ) (ec : c ≡ bare p) (el : lines ≡ cond (not h) c.width c.height) (es : size ≡ cond h c.width c.height)
+      (fit : sides_fit (bare p) ≡ true) (i : p.home + area p ≤ length from) (j : p.home + area p ≤ length to) where
+    lines_so : lines ≡ lines_of h (bare p)
+    lines_so = rw ec at el ∙ across h (bare p)
+
+    size_so : size ≡ size_of h (bare p)
+    size_so = rw ec at es
+
+    fitting_so : slices_fit (lines_of h (bare p)) (size_of h (bare p)) (part p.home (area p) from) (part p.home (area p) to) ≡ true
+    unfolding Channel.samples
+    fitting_so =
+        let by = samples_by h (bare p) in
+        let f = fit_lines h (bare p) fit in
+        fitting (lines_of h (bare p)) (size_of h (bare p)) (part p.home (area p) from) (part p.home (area p) to) f.0 f.1
+        (part_length p.home (area p) from i ∙ by)
+        (part_length p.home (area p) to j ∙ by)
+
+    pub channel_put : (out : List ℤ) → out ≡ squeezed_into h lines size (take (p.home + n - p.home) (drop p.home from)) (take (p.home + n - p.home) (drop p.home to))
+        → take p.home to ++ (out ++ drop (p.home + n - p.home) (drop p.home to)) ≡ written p.home (halves h (bare p) (part p.home (area p) from)) to
+    unfolding Laid.part Standing.halves Runs.channel_averages Runs.channel_residuals
+    channel_put out eo =
+        let d = count_so p.home in
+        let o : out ≡ halves h (bare p) (part p.home (area p) from) =
+        rw (d, lines_so, size_so) at eo
+        ∙ into_fit h (lines_of h (bare p)) (size_of h (bare p)) (part p.home (area p) from) (part p.home (area p) to) fitting_so in
+        rw d (put_back p.home (area p) out to (ap length o ∙ halves_length h p (part p.home (area p) from)) ∙ ap (λ (ys : List ℤ). written p.home ys to) o)
+
+    pub channel_told : (marks told : Bool)
+        → told ≡ (marks && marked_into h lines size (take (p.home + n - p.home) (drop p.home from)) (take (p.home + n - p.home) (drop p.home to)))
+        → told ≡ (marks && channel_written_marked h (bare p) (part p.home (area p) from))
+    unfolding Laid.part channel_written_marked
+    channel_told marks told e =
+        let d = count_so p.home in
+        rw (d, lines_so, size_so) at e
+        ∙ ap (λ (t : Bool). marks && t)
+        (told_fit h (lines_of h (bare p)) (size_of h (bare p)) (part p.home (area p) from) (part p.home (area p) to) fitting_so)

@@ -1,6 +1,7 @@
 -- Accepted steps one after the other on the places of a list (`squeezed` of crate runs): before each step the list that is reached, what its places
--- hold and the steps that are left give the whole run. Assumes nothing.
+-- hold and the steps that are left give the whole run, and what is told so far and those steps its mark. Assumes nothing.
 use mathlib.Core.Path.{◌≡◌, sym, ap, ◌∙◌}
+use mathlib.Core.Bool.{Bool, false, ◌||◌, ◌&&◌}
 use mathlib.Core.List.{List, []}
 use Prim.Native.Nat.{ℕ, ◌+◌, ◌-◌, ◌<◌, ◌≤◌, min}
 use native.Mathlib.Omega.{arith}
@@ -33,13 +34,15 @@ use Rattle.plan.specs.Steps.{step_at, steps}
 use Rattle.plan.specs.Plans.{judge_steps}
 use Rattle.plan.proofs.Reached.{left, left_next}
 use Rattle.plan.proofs.Runs.{none_refused}
-use Rattle.runs.specs.Parts.{joined}
+use Rattle.runs.specs.Parts.{parts, joined}
 use Rattle.runs.specs.Runs as Runs
 use Rattle.runs.specs.Runs.{step_forward, squeezed}
+use Rattle.runs.specs.Marks.{step_written_marked, run_written_marked}
 use Rattle.runs.proofs.Shapes.{Shaped, parts_joined, shaped_by}
 use Rattle.write.specs.Standing as Standing
-use Rattle.write.specs.Standing.{Alike, slice_of, lying, held, Squeezed}
+use Rattle.write.specs.Standing.{Alike, slice_of, lying, held, places_marked, Squeezed}
 use Rattle.write.proofs.Stepping.{held_step_lem}
+use Rattle.write.proofs.Marks.{step_told, steps_more, steps_all}
 
 -- ---- what the places hold has the shape of the list
 module _ (picture odds evens : List ℤ) (alike : Alike picture odds evens) where
@@ -62,7 +65,7 @@ module _ (picture odds evens : List ℤ) (alike : Alike picture odds evens) wher
 
 -- ---- the run
 -- a list is reached, with these places, and the steps from k on are left
-pub record Running (l : List Channel) (s : Steps) (picture : List ℤ) (ps : List Place) (odds evens : List ℤ) (k : ℕ) : Type 0 where
+pub record Running (l : List Channel) (s : Steps) (picture : List ℤ) (marks : Bool) (ps : List Place) (odds evens : List ℤ) (told : Bool) (k : ℕ) : Type 0 where
   pub cs : List Channel
   pub fine : Accepted cs
   pub judged : judge_steps (left s k) cs ≡ 0
@@ -71,22 +74,23 @@ pub record Running (l : List Channel) (s : Steps) (picture : List ℤ) (ps : Lis
   pub laid : Laid (length picture) ps
   pub alike : Alike picture odds evens
   pub so : squeezed (left s k) cs (joined (held picture odds evens ps)) ≡ squeezed (steps s) l picture
+  pub marked : (told || (marks && run_written_marked (left s k) cs (joined (held picture odds evens ps)))) ≡ (marks && run_written_marked (steps s) l picture)
 
-module _ (l : List Channel) (s : Steps) (picture : List ℤ) where
+module _ (l : List Channel) (s : Steps) (picture : List ℤ) (marks : Bool) where
   pub running_none : (ps : List Place) (odds evens : List ℤ) → Accepted l → judge_steps (steps s) l ≡ 0 → length picture ≡ total l
       → Sided l ps → Laid (length picture) ps → Alike picture odds evens → joined (held picture odds evens ps) ≡ picture
-      → Running l s picture ps odds evens 0
+      → Running l s picture marks ps odds evens false 0
   unfolding S.steps
   running_none ps odds evens fine judged long sided laid alike e =
       let z : min s.count max_steps - 0 ≡ min s.count max_steps = omega arith in
-      record { cs = l; fine = fine; judged = rw z judged; same = sym long; sided = sided; laid = laid; alike = alike; so = rw (z, e) }
+      record { cs = l; fine = fine; judged = rw z judged; same = sym long; sided = sided; laid = laid; alike = alike; so = rw (z, e); marked = rw (z, e) }
 
-  pub small : (ps : List Place) (odds evens : List ℤ) (k : ℕ) → Running l s picture ps odds evens k → length picture ≤ max_samples
+  pub small : (ps : List Place) (odds evens : List ℤ) (told : Bool) (k : ℕ) → Running l s picture marks ps odds evens told k → length picture ≤ max_samples
   unfolding Questions.total_allowed
-  small ps odds evens k w = let t = leb-true (total w.cs) max_samples w.fine.samples in omega (arith, w.same)
+  small ps odds evens told k w = let t = leb-true (total w.cs) max_samples w.fine.samples in omega (arith, w.same)
 
   -- step x is the one at k
-  module _ (ps : List Place) (odds evens : List ℤ) (k : ℕ) (w : Running l s picture ps odds evens k) (h : k < min s.count max_steps) (x : Step) (ex : x ≡ step_at s k) where
+  module _ (ps : List Place) (odds evens : List ℤ) (told : Bool) (k : ℕ) (w : Running l s picture marks ps odds evens told k) (h : k < min s.count max_steps) (x : Step) (ex : x ≡ step_at s k) where
     apart : (judge_step x w.cs ≡ 0) × (judge_steps (left s (k + 1)) (stepped x w.cs) ≡ 0)
     apart = none_refused (judge_step x w.cs) (judge_steps (left s (k + 1)) (stepped x w.cs)) (rw (left_next s k h x ex) at w.judged)
 
@@ -103,14 +107,16 @@ module _ (l : List Channel) (s : Steps) (picture : List ℤ) where
 
     pub running_more : (odds' evens' : List ℤ) → length odds' ≡ length odds → length evens' ≡ length evens
         → Squeezed x.horizontal (place_of ps) x.begin (x.begin + x.number) picture odds evens odds' evens'
-        → (ps' : List Place) → ps' ≡ step_places x ps → Running l s picture ps' odds' evens' (k + 1)
+        → (turn : Bool) → turn ≡ (marks && places_marked x.horizontal (place_of ps) x.begin x.number picture odds evens)
+        → (ps' : List Place) → ps' ≡ step_places x ps → Running l s picture marks ps' odds' evens' (told || turn) (k + 1)
     unfolding Runs.step_forward
-    running_more odds' evens' lo le q ps' ep =
+    running_more odds' evens' lo le q turn et ps' ep =
         let cs = w.cs in
         let hs = held picture odds evens ps in
+        let c : parts cs (joined hs) ≡ hs = parts_joined cs hs (held_shaped picture odds evens w.alike cs ps w.sided w.laid) in
         let t : step_forward x cs (joined hs) ≡ joined (held picture odds' evens' (step_places x ps)) =
-        rw (parts_joined cs hs (held_shaped picture odds evens w.alike cs ps w.sided w.laid))
-        (ap joined (sym (held_step_lem x cs ps reach.0 w.sided picture odds evens odds' evens' (small ps odds evens k w) w.laid q))) in
+        rw c (ap joined (sym (held_step_lem x cs ps reach.0 w.sided picture odds evens odds' evens' (small ps odds evens told k w) w.laid q))) in
+        let v : turn ≡ (marks && step_written_marked x cs (parts cs (joined hs))) = rw (c, ← step_told x cs ps reach.0 w.sided picture odds evens) et in
         let a = w.alike in
         record {
           cs = stepped x cs;
@@ -118,11 +124,18 @@ module _ (l : List Channel) (s : Steps) (picture : List ℤ) where
           judged = apart.1;
           same = stepped_total x cs ∙ w.same;
           sided = rw ep (sided_step x cs ps accepted.inside w.sided);
-          laid = rw ep (laid_step (length picture) x ps reach.0 (small ps odds evens k w) w.laid);
+          laid = rw ep (laid_step (length picture) x ps reach.0 (small ps odds evens told k w) w.laid);
           alike = record { odds_length = lo ∙ a.odds_length; evens_length = le ∙ a.evens_length };
           so = rw (ep, ← t) (rw (left_next s k h x ex, apart.0) at w.so);
+          marked =
+              rw (ep, ← t)
+              (steps_more marks told turn (step_written_marked x cs (parts cs (joined hs))) _ _ v
+              (rw (left_next s k h x ex, apart.0) at w.marked));
         }
 
-  pub running_all : (ps : List Place) (odds evens : List ℤ) (k : ℕ) → min s.count max_steps ≤ k → Running l s picture ps odds evens k
-      → joined (held picture odds evens ps) ≡ squeezed (steps s) l picture
-  running_all ps odds evens k h w = rw (table_none (step_at s) k (min s.count max_steps) h) at w.so
+  module _ (ps : List Place) (odds evens : List ℤ) (told : Bool) (k : ℕ) (end : min s.count max_steps ≤ k) (w : Running l s picture marks ps odds evens told k) where
+    pub running_all : joined (held picture odds evens ps) ≡ squeezed (steps s) l picture
+    running_all = rw (table_none (step_at s) k (min s.count max_steps) end) at w.so
+
+    pub told_all : told ≡ (marks && run_written_marked (steps s) l picture)
+    told_all = steps_all marks told _ (rw (table_none (step_at s) k (min s.count max_steps) end) at w.marked)

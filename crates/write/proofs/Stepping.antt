@@ -7,7 +7,7 @@ use Prim.Native.Nat.{ℕ, zero, suc, ◌+◌, ◌*◌, ◌<◌, ◌≤◌}
 use native.Mathlib.Omega.{arith}
 use native.Mathlib.Nat.{mul_comm}
 use lib.IntN.{ℤ}
-use lib.ListN.{length, take, drop, length-take, length-drop}
+use lib.ListN.{length, get_or, take, drop, length-take, length-drop}
 use lib.Seq.{get_or-take, get_or-drop, take_at, drop_at, drop-drop, take-take}
 use Rattle.std.proofs.lemmas.List.{drop-take}
 use Rattle.numbers.specs.Numbers.{max_samples}
@@ -53,6 +53,10 @@ module _ {ℓ κ} {A : Type ℓ} {B : Type κ} (f : A → B) where
   map_append : (xs ys : List A) → map f (xs ++ ys) ≡ map f xs ++ map f ys
   map_append [] ys = refl
   map_append (x ∷ xs) ys = ap (λ (l : List B). f x ∷ l) (map_append xs ys)
+
+-- an entry of a part
+pub part_at {ℓ} : {A : Type ℓ} (b n i : ℕ) (xs : List A) (d : A) → i < n → get_or (take n (drop b xs)) i d ≡ get_or xs (b + i) d
+part_at b n i xs d h = get_or-take n (drop b xs) i d h ∙ get_or-drop b xs i d
 
 map_same : (f g : Place → List ℤ) (ps : List Place) → ((k : ℕ) → k < length ps → f (place_of ps k) ≡ g (place_of ps k)) → map f ps ≡ map g ps
 map_same f g [] e = refl
@@ -136,10 +140,10 @@ module _ (s : Step) (cs : List Channel) (ps : List Place) (inside : s.begin + s.
 
   module _ (i : ℕ) (h : i < s.number) where
     place_in : place_of ranged i ≡ place_of ps (s.begin + i)
-    place_in = get_or-take s.number (drop s.begin ps) i _ h ∙ get_or-drop s.begin ps i _
+    place_in = part_at s.begin s.number i ps _ h
 
     channel_in : channel_of (range s cs) i ≡ channel_of cs (s.begin + i)
-    channel_in = get_or-take s.number (drop s.begin cs) i _ h ∙ get_or-drop s.begin cs i _
+    channel_in = part_at s.begin s.number i cs _ h
 
     abbrev p : Place
     p = place_of ps (s.begin + i)

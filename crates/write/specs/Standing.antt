@@ -1,9 +1,11 @@
 -- Where the samples of a list's channels stand while the writer takes its steps: each channel at its place (crate places), in the picture, in the odd
--- slice or in the even one; and what the functions for one channel, a step and all steps ask and leave. Definitions only.
+-- slice or in the even one; what the functions for one channel, a step and all steps ask and leave; and the marks that they tell (document 02, A.3).
+-- Definitions only.
 use Rattle.std.specs.Prelude.{◌≡◌, Bool, true, List, ◌++◌, ℕ, ◌+◌, ◌<◌, ◌≤◌, ℤ, length}
 use Rattle.numbers.specs.Numbers.{max_samples}
 use Rattle.channel.specs.declared.Channel.{Channel}
 use Rattle.channel.specs.Channel.{sides_fit}
+use Rattle.range.specs.Range.{some}
 use Rattle.list.specs.declared.ChannelList.{ChannelList}
 use Rattle.list.specs.Tables.{map}
 use Rattle.list.specs.Lists.{max_channels, channels}
@@ -16,6 +18,7 @@ use Rattle.plan.specs.declared.Steps.{Steps}
 use Rattle.plan.specs.Steps.{steps}
 use Rattle.runs.specs.Parts.{joined}
 use Rattle.runs.specs.Runs.{channel_averages, channel_residuals, squeezed}
+use Rattle.runs.specs.Marks.{channel_written_marked}
 
 -- the odd and the even slice are as long as the picture
 pub record Alike (picture odds evens : List ℤ) : Type 0 where
@@ -65,6 +68,14 @@ pub record Squeezed (horizontal : Bool) (at : ℕ → Place) (from to : ℕ) (pi
   pub kept : (q : Place) → q.home + area q ≤ length picture
       → ((k : ℕ) → from ≤ k → k < to → Apart q.home (area q) (at k).home (area (at k)))
       → lying picture odds' evens' q ≡ lying picture odds evens q
+
+-- whether a pair or a tail of the channel at a place leaves the plain range, squeezed from where it stands
+unfoldable pub place_marked : Bool → Place → List ℤ → List ℤ → List ℤ → Bool
+place_marked horizontal p picture odds evens = channel_written_marked horizontal (bare p) (lying picture odds evens p)
+
+-- some channel of so many from a place on
+abbrev pub places_marked : Bool → (ℕ → Place) → ℕ → ℕ → List ℤ → List ℤ → List ℤ → Bool
+places_marked horizontal at from number picture odds evens = some (λ i. place_marked horizontal (at (from + i)) picture odds evens) number
 
 -- ---- all steps
 -- the places of so many channels lie apart in a slice of n samples, and fill it

@@ -1,6 +1,6 @@
 -- The writer (document 01, "The entry", "Whole runs"): the questions 3 to 11 of list and plan, then 14 of the slices; the first "no" is the
--- refusal, and a refused call leaves the slices as they were. Definitions only.
-use Rattle.std.specs.Prelude.{Bool, cond, ◌&&◌, List, ℕ, eqb, ℤ, length}
+-- refusal, and a refused call leaves the slices as they were and has no mark (document 02, A.3). Definitions only.
+use Rattle.std.specs.Prelude.{Bool, false, cond, ◌&&◌, List, ℕ, eqb, ℤ, length}
 use Rattle.numbers.specs.Numbers.{refused_length}
 use Rattle.channel.specs.declared.Channel.{Channel}
 use Rattle.list.specs.declared.ChannelList.{ChannelList}
@@ -10,6 +10,7 @@ use Rattle.plan.specs.declared.Steps.{Steps}
 use Rattle.plan.specs.Steps.{steps}
 use Rattle.plan.specs.Plans.{meant, judge_plan}
 use Rattle.runs.specs.Runs.{squeezed}
+use Rattle.runs.specs.Marks.{run_written_marked}
 use Rattle.buffer.specs.Buffer.{zeros}
 
 -- 14. "Has each sample slice exactly its length"
@@ -30,3 +31,8 @@ written version l s picture pyramid work =
 -- the work slice afterwards
 unfoldable pub cleared : ℕ → ChannelList → Steps → List ℤ → List ℤ → List ℤ → List ℤ
 cleared version l s picture pyramid work = cond (eqb (answer version l s picture pyramid work) 0) (zeros work) work
+
+-- the mark: whether a pair or a tail under a step of the plan leaves the plain range
+unfoldable pub mark : ℕ → ChannelList → Steps → List ℤ → List ℤ → List ℤ → Bool
+mark version l s picture pyramid work =
+    cond (eqb (answer version l s picture pyramid work) 0) (run_written_marked (meant version (steps s) (channels l)) (channels l) picture) false

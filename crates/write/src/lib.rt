@@ -3,12 +3,14 @@
 // other of two slices (crate places), so that a step moves no sample of another
 // channel; what the steps leave goes to its place in the pyramid at the end. Total:
 // the questions to list and plan, then the one to the slices' lengths; a refused
-// call leaves the slices untouched.
+// call leaves the slices untouched. Each function over the squeeze of a channel tells
+// the mark too, whether a pair or a tail under it leaves the plain range.
 #![tactic(auto)]
 
-ghost use Rattle.std.specs.Prelude.{◌≡◌, true, ◌+◌, ◌≤◌, length, min};
+ghost use Rattle.std.specs.Prelude.{◌≡◌, true, ◌&&◌, ◌+◌, ◌≤◌, length, min};
 ghost use Rattle.numbers.specs.Numbers as Numbers;
 ghost use Rattle.channel.specs.Channel.{sides_fit};
+ghost use Rattle.range.specs.Range.{mark_of};
 ghost use Rattle.list.specs.Lists.{max_channels, channels, total};
 ghost use Rattle.list.specs.Questions.{judge_list};
 ghost use Rattle.places.specs.Places.{area, bare, place_at, places_in};
@@ -17,7 +19,8 @@ ghost use Rattle.plan.specs.Steps as Spec;
 ghost use Rattle.plan.specs.Plans.{judge_steps};
 ghost use Rattle.runs.specs.Parts.{joined};
 ghost use Rattle.runs.specs.Runs.{squeezed};
-ghost use Rattle.write.specs.Standing.{Alike, held, halves, Turned, Ranged, Fitting, Squeezed, Full, Reached};
+ghost use Rattle.runs.specs.Marks.{channel_written_marked, run_written_marked};
+ghost use Rattle.write.specs.Standing.{Alike, held, halves, place_marked, places_marked, Turned, Ranged, Fitting, Squeezed, Full, Reached};
 ghost use Rattle.write.specs.Settled.{settling, Moved, Cleared, Starting, settled};
 ghost use Rattle.write.specs.Write as Write;
 
@@ -25,70 +28,96 @@ use list::{ChannelList, Step};
 use numbers::Refusal;
 use places::{Place, Places, Slot};
 use plan::{Form, Steps};
+use range::Marking;
 
 // The channel at a place of one slice as averages and residuals at the same home
 // of another.
 #[tactic(auto, using(crate::proofs::Putting::channel_put))]
-fn squeeze_channel(place: Place, horizontal: bool, from: &[i32], to: &mut [i32])
+fn squeeze_channel<M: Marking>(place: Place, horizontal: bool, from: &[i32], to: &mut [i32]) -> bool
     requires { (place.home + area place ≤ length from.now) × (place.home + area place ≤ length to.old) × (sides_fit (bare place) ≡ true) }
-    ensures { to.new ≡ written place.home (halves horizontal (bare place) (part place.home (area place) from.now)) to.old }
+    ensures put { to.new ≡ written place.home (halves horizontal (bare place) (part place.home (area place) from.now)) to.old }
+    ensures told { result ≡ (M.marks && channel_written_marked horizontal (bare place) (part place.home (area place) from.now)) }
 {
     let channel = place.channel();
     let end = place.home + place.area();
-    forward::squeeze_lines(
+    forward::squeeze_lines::<M>(
         horizontal,
         channel.side(!horizontal) as usize,
         channel.side(horizontal) as usize,
         &from[place.home..end],
         &mut to[place.home..end],
-    );
+    )
 }
 
 // The channel at a place: one that no step has made stands in the picture, the
 // others in the odd slice or in the even one, and what is made of it goes to the
 // other of these two.
 // Three slices, not a struct: each method would promise too that both loans stay.
-fn squeeze_place(place: Place, horizontal: bool, picture: &[i32], odd: &mut [i32], even: &mut [i32])
+fn squeeze_place<M: Marking>(
+    place: Place,
+    horizontal: bool,
+    picture: &[i32],
+    odd: &mut [i32],
+    even: &mut [i32],
+) -> bool
     requires { Alike picture.now odd.old even.old × (place.home + area place ≤ length picture.now) × (sides_fit (bare place) ≡ true) }
-    ensures { Turned horizontal place picture.now odd.old even.old odd.new even.new }
+    ensures turned { Turned horizontal place picture.now odd.old even.old odd.new even.new }
+    ensures told { result ≡ (M.marks && place_marked horizontal place picture.now odd.old even.old) }
 {
     match place.slot {
-        Slot::Unmade => squeeze_channel(place, horizontal, picture, odd),
-        Slot::Odd => squeeze_channel(place, horizontal, odd, even),
-        Slot::Even => squeeze_channel(place, horizontal, even, odd),
+        Slot::Unmade => squeeze_channel::<M>(place, horizontal, picture, odd),
+        Slot::Odd => squeeze_channel::<M>(place, horizontal, odd, even),
+        Slot::Even => squeeze_channel::<M>(place, horizontal, even, odd),
     }
 }
 
 // The channels of a step's range.
-fn squeeze_step(step: Step, places: &Places, picture: &[i32], odd: &mut [i32], even: &mut [i32])
+fn squeeze_step<M: Marking>(
+    step: Step,
+    places: &Places,
+    picture: &[i32],
+    odd: &mut [i32],
+    even: &mut [i32],
+) -> bool
     requires { Alike picture.now odd.old even.old × Ranged (length picture.now) (place_at places.now) step.begin (step.begin + step.number) × Fitting (place_at places.now) step.begin (step.begin + step.number) }
-    ensures { Squeezed step.horizontal (place_at places.now) step.begin (step.begin + step.number) picture.now odd.old even.old odd.new even.new }
+    ensures made { Squeezed step.horizontal (place_at places.now) step.begin (step.begin + step.number) picture.now odd.old even.old odd.new even.new }
+    ensures told { result ≡ (M.marks && places_marked step.horizontal (place_at places.now) step.begin step.number picture.now odd.old even.old) }
 {
     let horizontal = step.horizontal;
+    let mut outside = false;
     for k in step.begin as usize..step.end() {
-        squeeze_place(places.at(k), horizontal, picture, odd, even);
+        outside |= squeeze_place::<M>(places.at(k), horizontal, picture, odd, even);
     }
+    outside
 }
 
-// Accepted steps on the picture of a list, first to last; the places that they
-// leave.
-fn squeeze_steps(
+// What the steps leave: the places, and the mark.
+#[derive(Drop)]
+struct Stepped {
+    places: Places,
+    outside: bool,
+}
+
+// Accepted steps on the picture of a list, first to last.
+fn squeeze_steps<M: Marking>(
     list: &ChannelList,
     steps: &Steps,
     picture: &[i32],
     odd: &mut [i32],
     even: &mut [i32],
-) -> Places
+) -> Stepped
     requires { (judge_list list.now ≡ 0) × (judge_steps (Spec.steps steps.now) (channels list.now) ≡ 0) × (length picture.now ≡ total (channels list.now)) × Alike picture.now odd.old even.old }
-    ensures { Reached list.now steps.now result.count (places_in result) picture.now odd.new even.new }
+    ensures reached { Reached list.now steps.now result.places.count (places_in result.places) picture.now odd.new even.new }
+    ensures told { result.outside ≡ (M.marks && run_written_marked (Spec.steps steps.now) (channels list.now) picture.now) }
 {
     let mut places = Places::lay(list);
+    let mut outside = false;
     for k in 0..steps.len() {
         let step = steps.step(k);
-        squeeze_step(step, &places, picture, odd, even);
+        outside |= squeeze_step::<M>(step, &places, picture, odd, even);
         places.step(step);
     }
-    places
+    Stepped { places, outside }
 }
 
 // The samples at a place of one slice to `start` of another.
@@ -169,30 +198,39 @@ fn finish(places: &Places, picture: &[i32], pyramid: &mut [i32], work: &mut [i32
 
 // The steps on the picture of a list, the pyramid as the odd slice and the work
 // slice as the even one.
-fn run(list: &ChannelList, steps: &Steps, picture: &[i32], pyramid: &mut [i32], work: &mut [i32])
+fn run<M: Marking>(
+    list: &ChannelList,
+    steps: &Steps,
+    picture: &[i32],
+    pyramid: &mut [i32],
+    work: &mut [i32],
+) -> bool
     requires { (judge_list list.now ≡ 0) × (judge_steps (Spec.steps steps.now) (channels list.now) ≡ 0) × (length picture.now ≡ total (channels list.now)) × Alike picture.now pyramid.old work.old }
-    ensures { pyramid.new ≡ squeezed (Spec.steps steps.now) (channels list.now) picture.now }
+    ensures made { pyramid.new ≡ squeezed (Spec.steps steps.now) (channels list.now) picture.now }
+    ensures told { result ≡ (M.marks && run_written_marked (Spec.steps steps.now) (channels list.now) picture.now) }
 {
-    let places = squeeze_steps(list, steps, picture, pyramid, work);
-    finish(&places, picture, pyramid, work);
+    let stepped = squeeze_steps::<M>(list, steps, picture, pyramid, work);
+    finish(&stepped.places, picture, pyramid, work);
+    stepped.outside
 }
 
 // The pyramid of a picture: all slices have the samples of the list, and the
-// work slice is cleared at the end.
-pub fn write(
+// work slice is cleared at the end; and whether a pair or a tail under a step leaves
+// the plain range.
+pub fn write<M: Marking>(
     form: &Form,
     picture: &[i32],
     pyramid: &mut [i32],
     work: &mut [i32],
-) -> Result<(), Refusal>
-    ensures { (Numbers.answer_of result ≡ Write.answer form.now.version form.now.list form.now.steps picture.now pyramid.old work.old) × (pyramid.new ≡ Write.written form.now.version form.now.list form.now.steps picture.now pyramid.old work.old) × (work.new ≡ Write.cleared form.now.version form.now.list form.now.steps picture.now pyramid.old work.old) }
+) -> Result<bool, Refusal>
+    ensures { (Numbers.answer_of result ≡ Write.answer form.now.version form.now.list form.now.steps picture.now pyramid.old work.old) × (pyramid.new ≡ Write.written form.now.version form.now.list form.now.steps picture.now pyramid.old work.old) × (work.new ≡ Write.cleared form.now.version form.now.list form.now.steps picture.now pyramid.old work.old) × (mark_of result ≡ (M.marks && Write.mark form.now.version form.now.list form.now.steps picture.now pyramid.old work.old)) }
 {
     let steps = form.plan()?.steps;
     let total = form.list.total() as usize;
     if !((picture.len() == total) & ((pyramid.len() == total) & (work.len() == total))) {
         return Err(Refusal::Length);
     }
-    run(&form.list, &steps, picture, pyramid, work);
+    let outside = run::<M>(&form.list, &steps, picture, pyramid, work);
     buffer::clear(work);
-    Ok(())
+    Ok(outside)
 }
