@@ -5,9 +5,11 @@ ghost use Rattle.std.specs.Prelude.{◌≡◌};
 ghost use Rattle.numbers.specs.Numbers.{answer_of};
 ghost use Rattle.tile.specs.Call as Call;
 ghost use Rattle.squeeze.specs.GridRect as GridRect;
+ghost use Rattle.squeeze.specs.Marked as With;
 
 use channel::Channel;
 use numbers::Refusal;
+use range::{Marked, Unmarked};
 use tile::Sides;
 
 // x, y, width and height.
@@ -43,7 +45,49 @@ pub fn squeeze_tile<'a>(
         width: ow,
         height: oh,
     };
-    tile::squeeze_tile(horizontal != 0, a, r, o, avg, res, next, prev, out)
+    tile::squeeze_tile::<Unmarked>(horizontal != 0, a, r, o, avg, res, next, prev, out)?;
+    Ok(())
+}
+
+// The same, and as the first of `mark` 1 where a pair or a copied average of the tile
+// leaves the plain range, else 0.
+pub fn squeeze_tile_marked<'a>(
+    horizontal: u32,
+    aw: usize,
+    ah: usize,
+    rw: usize,
+    rh: usize,
+    ow: usize,
+    oh: usize,
+    avg: &'a [i32],
+    res: &[i32],
+    next: &'a [i32],
+    prev: &'a [i32],
+    out: &mut [i32],
+    mark: &mut [u32],
+) -> Result<(), Refusal>
+    ensures { (answer_of result ≡ With.with_mark (Call.answer (Call.call horizontal aw ah rw rh ow oh avg.now res.now next.now prev.now out.old)) mark.old) × (out.new ≡ With.slice_after (Call.answer (Call.call horizontal aw ah rw rh ow oh avg.now res.now next.now prev.now out.old)) mark.old (Call.after (Call.call horizontal aw ah rw rh ow oh avg.now res.now next.now prev.now out.old)) out.old) × (mark.new ≡ With.mark_after (Call.answer (Call.call horizontal aw ah rw rh ow oh avg.now res.now next.now prev.now out.old)) mark.old (Call.call_mark (Call.call horizontal aw ah rw rh ow oh avg.now res.now next.now prev.now out.old))) }
+{
+    let row = horizontal != 0;
+    let a = Sides {
+        width: aw,
+        height: ah,
+    };
+    let r = Sides {
+        width: rw,
+        height: rh,
+    };
+    let o = Sides {
+        width: ow,
+        height: oh,
+    };
+    if mark.len() == 0 {
+        tile::judge_tile(row, a, r, o, avg, res, next, prev, out)?;
+        return Err(Refusal::Length);
+    }
+    let marked = tile::squeeze_tile::<Marked>(row, a, r, o, avg, res, next, prev, out)?;
+    mark[0] = marked as u32;
+    Ok(())
 }
 
 // The rectangle of a channel at a grid position: x, y, width and height.

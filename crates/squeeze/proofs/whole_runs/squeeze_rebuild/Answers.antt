@@ -1,10 +1,18 @@
 -- `squeeze_rebuild` meets its contract: the record's form is refused, or the call below answers (proofs/Ends.antt). Assumes nothing.
-use Rattle.std.proofs.Common.{rules, refl}
+use Rattle.std.proofs.Common.{rules, ◌≡◌, refl}
+use Rattle.numbers.specs.Numbers.{answer_of, number_of}
 use Rattle.squeeze.proofs.Ends.{rebuild_refused, rebuild_done}
 use Rattle.squeeze.proofs.whole_runs.squeeze_rebuild.Goals as goal
 
 pub returns-in_err-form : goal.returns-in_err-form
 returns-in_err-form c = rebuild_refused _ _ _ _ _ c.in_err-form.ensures _ (search rules)
 
+pub returns-in_err-rebuild : goal.returns-in_err-rebuild
+returns-in_err-rebuild c =
+    let r = c.in_err-rebuild.field-0.0 in
+    let e : answer_of {A = Unit {0}} c.from_residual-in_err-rebuild.result ≡ number_of r = search rules in
+    let d = c.in_err-rebuild.ensures in
+    rw e (rebuild_done _ _ _ _ _ c.in_ok-form.ensures refl _ _ _ (d.0, d.1, d.2))
+
 pub returns : goal.returns
-returns c = rebuild_done _ _ _ _ _ c.in_ok-form.ensures refl _ _ _ c.rebuild.ensures
+returns c = let d = c.in_ok-rebuild.ensures in rebuild_done _ _ _ _ _ c.in_ok-form.ensures refl _ _ _ (d.0, d.1, d.2)
