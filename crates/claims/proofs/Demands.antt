@@ -73,13 +73,13 @@ module _ (bytes : List ℕ) (read filled work : List ℤ) (h : answer bytes read
       let a = none_refused (read_answer bytes) _ h in
       (a.0, (passed (fits bytes read && (fits bytes filled && fits bytes work)) _ _ a.1).0)
 
-  read_long : length read ≡ total (channels_of bytes)
+  pub read_long : length read ≡ total (channels_of bytes)
   read_long = eqb-true (length read) (total (channels_of bytes)) ((and-eq-true_iff (fits bytes read) (fits bytes filled && fits bytes work)).0 asked.1).0
 
-  picture_fills : Samples read → Fills (channels_of bytes) read
+  pub picture_fills : Samples read → Fills (channels_of bytes) read
   picture_fills s = record { long = read_long; samples = s }
 
-  pyramid_fills : Samples read → Fills (layout (steps_of bytes) (channels_of bytes)) read
+  pub pyramid_fills : Samples read → Fills (layout (steps_of bytes) (channels_of bytes)) read
   pyramid_fills s = record { long = read_long ∙ sym (layout_total (steps_of bytes) (channels_of bytes)); samples = s }
 
 -- slices of the record's length are accepted

@@ -9,3 +9,4 @@ pub mod Signs
 pub mod Chosen
 pub mod Stretches
 pub mod Puts
+pub mod Marks

@@ -5,3 +5,4 @@ pub mod Strips
 pub mod House
 pub mod Origins
 pub mod Wrong
+pub mod Marks
