@@ -1,8 +1,8 @@
 """The papers' rules in plain form, for the generators beside this file: records, lists, plans and the pair.
 
 A channel is (width, height, horizontal shift, vertical shift), a step (horizontal, in place, first, number). Written
-from document 01 alone, the coarse count from document 02, A.2, sides and tag 3 from its A.8, versions from its A.11,
-origins from its A.4.
+from document 01 alone, the coarse count from document 02, A.2, the mark from its A.3, origins from its A.4, sides and
+tag 3 from its A.8, versions from its A.11.
 """
 import struct
 
@@ -214,13 +214,45 @@ def half(d):
     return d // 2 if d >= 0 else -(-d // 2)
 
 
-def line(avg, res, following, before):
-    """A line's samples; `following` and `before` are lists of one sample of the outer lines, or empty."""
-    m, n, out = len(avg), len(res), []
-    for i in range(n):
-        after = avg[i + 1] if i + 1 < m else (following or [avg[i]])[0]
-        left = out[2 * i - 1] if i > 0 else (before or [avg[0]])[0]
-        d = wrap(res[i] + tendency(left, avg[i], after))
+def pairs(avg, res, following, before):
+    """The pairs of a line, each its average, residual, next average, previous output, first and second; `following` and
+    `before` are lists of one sample of the outer lines, or empty."""
+    made = []
+    for i, r in enumerate(res):
+        after = avg[i + 1] if i + 1 < len(avg) else (following or [avg[i]])[0]
+        left = made[-1][5] if made else (before or [avg[0]])[0]
+        d = wrap(r + tendency(left, avg[i], after))
         first = wrap(avg[i] + half(d))
-        out += [first, wrap(first - d)]
-    return out + avg[n:]
+        made.append((avg[i], r, after, left, first, wrap(first - d)))
+    return made
+
+
+def line(avg, res, following, before):
+    """A line's samples."""
+    return [x for pair in pairs(avg, res, following, before) for x in pair[4:]] + avg[len(res):]
+
+
+def squeezed(samples):
+    """A line's averages and residuals: the writer's."""
+    pairs = list(zip(samples[::2], samples[1::2]))
+    avg = [wrap(x - half(wrap(x - y))) for x, y in pairs] + samples[2 * len(pairs):]
+    res = []
+    for i, (x, y) in enumerate(pairs):
+        before = samples[2 * i - 1] if i > 0 else avg[0]
+        after = avg[i + 1] if i + 1 < len(avg) else avg[i]
+        res.append(wrap(x - y - tendency(before, avg[i], after)))
+    return avg, res
+
+
+# "Whether any of its inputs or its two outputs lies outside −268,435,456 to 268,435,455. Lines .. say it for all pairs
+# under them and for the averages that a step copies" (document 02, A.3).
+
+LOWEST, HIGHEST = -268_435_456, 268_435_455
+
+
+def outside(samples):
+    return any(not LOWEST <= x <= HIGHEST for x in samples)
+
+
+def line_marked(avg, res, following, before):
+    return any(map(outside, pairs(avg, res, following, before))) or outside(avg[len(res):])

@@ -1,17 +1,18 @@
 #!/usr/bin/env python3
-"""Makes crates/run_test/stdin: whole records with a picture and its pyramid, or with their refusal.
+"""Makes crates/run_test/stdin: whole records with a picture and its pyramid and the run's mark, or with their refusal.
 
 usage: tests/runs.py VECTORS > crates/run_test/stdin 2> crates/run_test/stdout
 
 VECTORS is a directory of NAME.record, NAME.pyramid and NAME.picture, samples of four bytes, least byte first. What is
-expected is computed here, channel by channel and line by line, by document 01's rules (rules.py) and its "Whole runs";
-the vectors are held against that first, both ways. What the program must write goes to standard error.
+expected is computed here, channel by channel and line by line, by document 01's rules (rules.py) and its "Whole runs",
+the mark by document 02, A.3; the vectors are held against that first, both ways. What the program must write goes to
+standard error.
 
 The stream has for each kind of KINDS the number of its cases and the cases. A case is the number of its bytes, a head,
 the record, the samples of the slice that is read and, where the answer is 0, as many that are expected. The head: the
-answer, the record's length in bytes, and the lengths in samples of the slices that are read, filled and for work. A
-number has four bytes, least byte first. Where the answer is 0 the samples that are read are the pyramid, and those
-expected the picture.
+answer, the record's length in bytes, the lengths in samples of the slices that are read, filled and for work, and the
+mark, 1 or 0. A number has four bytes, least byte first. Where the answer is 0 the samples that are read are the
+pyramid, and those expected the picture.
 """
 import glob
 import itertools
@@ -20,26 +21,14 @@ import struct
 import sys
 
 from records import LONG, ORDER, PRINTED, REFUSALS, STRIP_REFUSALS, VERSION_REFUSALS
-from rules import (META, VERSION_2, Refused, channel, field, half, layouts, line, meaning, meta, part, step, strip, tendency, total,
-                   wrap)
+from rules import (HIGHEST, LOWEST, META, VERSION_2, Refused, channel, field, layouts, line, line_marked, meaning, meta, part,
+                   squeezed, step, step_origins, strip, total, wrap)
 
-KINDS = {kind: [] for kind in ['vectors', 'sizes', 'plans', 'metas', 'limits', 'refusals', 'order', 'cuts', 'strips', 'versions']}
+KINDS = {kind: [] for kind in ['vectors', 'sizes', 'plans', 'metas', 'limits', 'refusals', 'order', 'cuts', 'strips', 'versions', 'marks']}
 dice = random.Random()
 
 
 # Document 01, "Whole runs": lines and channels.
-
-def squeezed(samples):
-    """A line's averages and residuals: the writer's."""
-    pairs = list(zip(samples[::2], samples[1::2]))
-    avg = [wrap(x - half(wrap(x - y))) for x, y in pairs] + samples[2 * len(pairs):]
-    res = []
-    for i, (x, y) in enumerate(pairs):
-        before = samples[2 * i - 1] if i > 0 else avg[0]
-        after = avg[i + 1] if i + 1 < len(avg) else avg[i]
-        res.append(wrap(x - y - tendency(before, avg[i], after)))
-    return avg, res
-
 
 def lines_of(plane, c, horizontal):
     w, h = c[:2]
@@ -57,9 +46,11 @@ def halves(plane, c, horizontal):
 
 
 def joined(average, residual, c, horizontal):
+    """The channel, and whether one of its lines is marked."""
     avg = lines_of(average, part(c, horizontal, False), horizontal)
     res = lines_of(residual, part(c, horizontal, True), horizontal)
-    return plane_of([line(a, r, [], []) for a, r in zip(avg, res)], horizontal)
+    lines = [(a, r, [], []) for a, r in zip(avg, res)]
+    return plane_of([line(*given) for given in lines], horizontal), any(line_marked(*given) for given in lines)
 
 
 # Steps and plans. `channels` is the list before the step.
@@ -77,7 +68,7 @@ def back(channels, planes, horizontal, inplace, first, number):
     at = end if inplace else len(channels)
     residuals, others = planes[at:at + number], planes[end:at] + planes[at + number:]
     made = [joined(a, r, c, horizontal) for a, r, c in zip(planes[first:end], residuals, channels[first:end])]
-    return planes[:first] + made + others
+    return planes[:first] + [plane for plane, _ in made] + others, any(marked for _, marked in made)
 
 
 def planes_of(channels, samples):
@@ -99,12 +90,15 @@ def write(record, picture):
 
 
 def rebuild(record, pyramid):
+    """The picture, and whether one of the steps is marked."""
     _, channels, steps = meaning(record)
     lists = layouts(channels, steps)
     planes = planes_of(lists[-1], pyramid)
+    marks = [False]
     for before, s in zip(lists[-2::-1], reversed(steps)):
-        planes = back(before, planes, *s)
-    return flat(planes)
+        planes, marked = back(before, planes, *s)
+        marks.append(marked)
+    return flat(planes), any(marks)
 
 
 def judge(record):
@@ -144,16 +138,18 @@ def samples(count, sort=None):
 
 # Cases.
 
-def case(kind, answer, record, lengths, given, wanted=()):
+def case(kind, answer, record, lengths, given, wanted=(), mark=False):
     assert len(given) == lengths[0]
     body = [*given, *wanted]
-    head = struct.pack('<5I', answer, len(record), *lengths)
+    head = struct.pack('<6I', answer, len(record), *lengths, mark)
     KINDS[kind].append(head + record + struct.pack(f'<{len(body)}i', *body))
 
 
 def accepted(kind, record, pyramid, picture):
-    assert rebuild(record, pyramid) == picture and write(record, picture) == pyramid, (kind, record)
-    case(kind, 0, record, [len(pyramid)] * 3, pyramid, picture)
+    made, mark = rebuild(record, pyramid)
+    assert made == picture and write(record, picture) == pyramid, (kind, record)
+    case(kind, 0, record, [len(pyramid)] * 3, pyramid, picture, mark)
+    return mark
 
 
 def refused(kind, number, record, lengths):
@@ -177,7 +173,7 @@ def run(kind, record, answer=None, sort=None):
         return refused(kind, number, record, fitting(record))
     made = samples(total(meaning(record)[1]), sort)
     if below(2):
-        accepted(kind, record, made, rebuild(record, made))
+        accepted(kind, record, made, rebuild(record, made)[0])
     else:
         accepted(kind, record, write(record, made), made)
 
@@ -191,9 +187,9 @@ def vectors(path):
     for name in names:
         record, pyramid, picture = (open(name[:-len('record')] + end, 'rb').read() for end in ('record', 'pyramid', 'picture'))
         pyramid, picture = ([x for x, in struct.iter_unpack('<i', stored)] for stored in (pyramid, picture))
-        if judge(record) or rebuild(record, pyramid) != picture or write(record, picture) != pyramid:
+        if judge(record) or rebuild(record, pyramid)[0] != picture or write(record, picture) != pyramid:
             sys.exit(f'the rule and the vector differ: {name}')
-        case('vectors', 0, record, [len(pyramid)] * 3, pyramid, picture)
+        accepted('vectors', record, pyramid, picture)
 
 
 # One and two channels with sides 0 to 3: the default plan, and each single step on each range.
@@ -400,9 +396,56 @@ def versions():
         refused('versions', 12, VERSION_2 + channel(33, 2), lengths)
 
 
+# Marks (document 02, A.3): one sample at an end of the plain range or one past it in each channel of the pyramid, then of
+# the picture, beside small ones. A run is marked where a step reads or makes that channel.
+
+MARKED = [channel(10, 9), channel(10, 9) * 3, meta(4, 3) + channel(9, 9) * 3, VERSION_2 + channel(33, 2) * 2,
+          channel(8, 8), channel(8, 8) * 2 + field(3, 1, 1), meta(5, 4) + channel(4, 4) + field(2, 0, 1),
+          channel(5, 4) * 2 + field(3, 0, 2) + field(2, 0, 2), channel(5, 4) * 3 + field(1, 0, 2) + field(0, 1, 1),
+          channel(8, 3) + field(3, 0, 1) + field(3, 1, 1) + field(0, 1, 2), channel(1, 7) * 2 + field(1, 0, 1) + field(3, 1, 1)]
+
+
+def touched(channels, steps):
+    """Whether a step reads or makes it, of each channel of the pyramid and of the picture."""
+    of_pyramid, origins = [False] * len(channels), list(range(len(channels)))
+    for s in steps:
+        of_pyramid, origins = step_touched(of_pyramid, *s), step_origins(origins, *s)
+    return of_pyramid, [any(t for t, o in zip(of_pyramid, origins) if o == k) for k in range(len(channels))]
+
+
+def step_touched(flags, horizontal, inplace, first, number):
+    made, after = [True] * number, flags[first + number:]
+    return flags[:first] + made + (made + after if inplace else after + made)
+
+
+def with_one(channels, k, sample):
+    """Small samples of these channels, and this one somewhere in channel k."""
+    planes = [[between(-9, 9) for _ in range(c[0] * c[1])] for c in channels]
+    planes[k][below(len(planes[k]))] = sample
+    return flat(planes)
+
+
+def marks():
+    for record in MARKED:
+        _, channels, steps = meaning(record)
+        lists, flags = layouts(channels, steps), touched(channels, steps)
+        for of_picture, places in enumerate((lists[-1], channels)):
+            for k, past in itertools.product(range(len(places)), (0, 1)):
+                if places[k][0] * places[k][1] == 0:
+                    continue
+                made = with_one(places, k, pick([LOWEST - past, HIGHEST + past]))
+                both = (write(record, made), made) if of_picture else (made, rebuild(record, made)[0])
+                mark = accepted('marks', record, *both)
+                assert mark == flags[of_picture][k] or not past
+    for picture in ([HIGHEST, LOWEST], [LOWEST, HIGHEST], [HIGHEST, 0], [LOWEST, -1]):
+        pyramid = write(channel(2, 1) + field(1, 0, 1), picture)
+        mark = accepted('marks', channel(2, 1) + field(1, 0, 1), pyramid, picture)
+        assert mark == (abs(pyramid[1]) == 536_870_911)
+
+
 if __name__ == '__main__':
     vectors(sys.argv[1])
-    for make in (sizes, plans, metas, limits, refusals, order, cuts, strips, versions):
+    for make in (sizes, plans, metas, limits, refusals, order, cuts, strips, versions, marks):
         dice.seed(make.__name__)
         make()
     for kind, cases in KINDS.items():

@@ -1,7 +1,8 @@
 #!/usr/bin/env python3
-"""Makes crates/tile_test/stdin: tile calls, each with the answer and the output that document 01 asks for.
+"""Makes crates/tile_test/stdin: tile calls, each with the answer and the output that document 01 asks for, and the mark
+of document 02, A.3.
 
-usage: tests/tiles.py TILE.TXT > crates/tile_test/stdin
+usage: tests/tiles.py TILE.TXT > crates/tile_test/stdin 2> crates/tile_test/stdout
 
 TILE.TXT has the published Rust's answers, one case to a line, `tile h|v AW AH RW RH NEXT PREV OW OH | averages |
 residuals | next line | previous line => ok SAMPLES`. What else is expected is computed here, index by index, by the
@@ -10,18 +11,19 @@ rule first.
 
 The stream has for each kind of KINDS the number of its cases and the cases. A case is the number of its bytes, a head,
 the samples of averages, residuals, next line and previous line, and, where the answer is 0, those of the output. The
-head: the answer, the direction, six sides (width and height of average, residual, output) and the five slices'
-lengths. A number has four bytes, a side eight, a sample four, least byte first.
+head: the answer, the direction, six sides (width and height of average, residual, output), the five slices' lengths
+and the mark, 1 or 0. A number has four bytes, a side eight, a sample four, least byte first. What the program must
+write goes to standard error.
 """
 import itertools
 import random
 import struct
 import sys
 
-from rules import MAX_SAMPLES, MAX_SHORT_SIDE, MAX_SIDE, line
+from rules import HIGHEST, LOWEST, MAX_SAMPLES, MAX_SHORT_SIDE, MAX_SIDE, line, line_marked, squeezed
 
 KINDS = {kind: [] for kind in
-         ['published', 'table', 'sizes', 'ends', 'limits', 'areas', 'misfits', 'lengths', 'order', 'cuts']}
+         ['published', 'table', 'sizes', 'ends', 'limits', 'areas', 'misfits', 'lengths', 'order', 'cuts', 'marks', 'outputs']}
 dice = random.Random()
 
 
@@ -32,9 +34,14 @@ class Squeeze:
         self.horizontal, self.avg, self.res, self.m, self.n = horizontal, avg, res, m, n
         self.following, self.before = following, before
 
+    def lines(self):
+        return [(a, r, self.following[k:k + 1], self.before[k:k + 1]) for k, (a, r) in enumerate(zip(self.avg, self.res))]
+
     def output(self):
-        return [line(a, r, self.following[k:k + 1], self.before[k:k + 1])
-                for k, (a, r) in enumerate(zip(self.avg, self.res))]
+        return [line(*given) for given in self.lines()]
+
+    def marked(self):
+        return any(line_marked(*given) for given in self.lines())
 
 
 # Cases.
@@ -58,9 +65,9 @@ def samples(count, least=-2**31, most=2**31 - 1):
     return [least + dice.getrandbits(40) % (most - least + 1) for _ in range(count)]
 
 
-def case(kind, answer, horizontal, six, inputs, room, expected=()):
+def case(kind, answer, horizontal, six, inputs, room, expected=(), mark=False):
     body = [x for part in inputs for x in part] + list(expected)
-    head = struct.pack('<II6Q5I', answer, direction(horizontal), *six, *map(len, inputs), room)
+    head = struct.pack('<II6Q6I', answer, direction(horizontal), *six, *map(len, inputs), room, mark)
     KINDS[kind].append(head + struct.pack(f'<{len(body)}i', *body))
 
 
@@ -68,7 +75,7 @@ def accepted(kind, s, output):
     h, lines, size = s.horizontal, len(s.avg), s.m + s.n
     expected = flat(h, output, size)
     case(kind, 0, h, sides(h, s.m, lines) + sides(h, s.n, lines) + sides(h, size, lines),
-         [flat(h, s.avg, s.m), flat(h, s.res, s.n), s.following, s.before], len(expected), expected)
+         [flat(h, s.avg, s.m), flat(h, s.res, s.n), s.following, s.before], len(expected), expected, s.marked())
 
 
 def refused(kind, answer, horizontal, six, lengths):
@@ -109,7 +116,7 @@ def published(path):
         s = Squeeze(h, apart(avg, m), apart(res, n), m, n, following, before)
         if flat(h, s.output(), m + n) != expected:
             sys.exit(f'the rule and the published answer differ: {text}')
-        case('published', 0, h, (aw, ah, rw, rh, ow, oh), [avg, res, following, before], len(expected), expected)
+        case('published', 0, h, (aw, ah, rw, rh, ow, oh), [avg, res, following, before], len(expected), expected, s.marked())
 
 
 # Document 01's "Proved table", both ways.
@@ -275,7 +282,7 @@ def bounds(cuts, end):
 
 def tiles(s, strips, ends):
     """The tile calls of a squeeze that is cut across at `strips`, and along after `ends` averages, strip by strip."""
-    out = s.output()
+    out, marked = s.output(), False
     accepted('cuts', s, out)
     for (top, bottom), cuts in zip(bounds(strips, len(s.avg)), ends):
         avg, res, strip = s.avg[top:bottom], s.res[top:bottom], out[top:bottom]
@@ -287,6 +294,8 @@ def tiles(s, strips, ends):
             tile = Squeeze(s.horizontal, [a[start:end] for a in avg], [r[start:stop] for r in res], end - start,
                            stop - start, following, before)
             accepted('cuts', tile, [o[2 * start:s.m + s.n if last else 2 * end] for o in strip])
+            marked |= tile.marked()
+    assert marked == s.marked()
 
 
 def cuts():
@@ -294,9 +303,11 @@ def cuts():
         paper = Squeeze(h, [[10, 4]], [[1, 0]], 2, 2, [], [])
         assert paper.output() == [[11, 9, 4, 4]]
         tiles(paper, [], [[1]])
-        for k in range(12):
+        for k in range(24):
             size, across = 2 + dice.getrandbits(16) % 33, 1 + dice.getrandbits(16) % 20
-            s = squeeze(h, size, across, k & 1, k & 2, k & 4)
+            s = squeeze(h, size, across, k & 1, k & 2, k & 4 or k > 11)
+            if k > 11:
+                put(s, dice.getrandbits(16) % (size + 2), dice.getrandbits(16) % across, HIGHEST + 1)
             places = lambda end, share: [p for p in range(1, end) if dice.getrandbits(16) % share == 0]
             strips = places(across, 6) + ([across] if k == 5 else [])
             ends = [places(s.m, 3) for _ in range(len(strips) + 1)]
@@ -305,12 +316,63 @@ def cuts():
             tiles(s, strips, ends)
 
 
+# Marks: one sample at an end of the plain range or one past it, in each place that a call may read, beside small ones.
+# The lines take turns, so that each lane of a block is met.
+
+SIZES_OF_EIGHTS = [0, 1, 2, 3, 7, 8, 9, 16, 17]
+
+
+def put(s, place, k, sample):
+    """The sample over one of line k: of its averages, then of its residuals, or of the next or the previous line."""
+    if place < s.m:
+        s.avg[k][place] = sample
+        s.res[k][place:place + 1] = [0] * (place < s.n)
+    elif place < s.m + s.n:
+        s.res[k][place - s.m] = sample
+    elif place == s.m + s.n and s.following:
+        s.following[k] = sample
+    elif place > s.m + s.n and s.before:
+        s.before[k] = sample
+
+
+def is_read(s, place):
+    return place < s.m + s.n or s.n > 0 and (place > s.m + s.n or s.m == s.n)
+
+
+def marks():
+    turn = itertools.count()
+    for h, across in itertools.product((True, False), (1, 9)):
+        for size in range(18) if across == 1 else SIZES_OF_EIGHTS:
+            for place, past in itertools.product(range(size + 2), (0, 1)):
+                s = squeeze(h, size, across, True, True, True)
+                put(s, place, next(turn) // 2 % across, dice.choice([LOWEST - past, HIGHEST + past]))
+                assert s.marked() == (past == 1 and is_read(s, place))
+                accepted('marks', s, s.output())
+
+
+# The same for each sample of the output, beside others near that end.
+
+def outputs():
+    turn = itertools.count()
+    for h, across in itertools.product((True, False), (1, 9)):
+        for size in range(1, 18) if across == 1 else SIZES_OF_EIGHTS:
+            for place, past in itertools.product(range(size), (0, 1)):
+                end, inward = dice.choice([(LOWEST, 1), (HIGHEST, -1)])
+                out = [[end + inward * x for x in samples(size, 1, 99)] for _ in range(across)]
+                out[next(turn) // 2 % across][place] = end - inward * past
+                avg, res = zip(*map(squeezed, out))
+                s = Squeeze(h, avg, res, size - size // 2, size // 2, [], [])
+                assert s.output() == out and s.marked() == (past == 1)
+                accepted('outputs', s, out)
+
+
 dice.seed(0)
 published(sys.argv[1])
-for make in (table, sizes, ends, limits, areas, misfits, lengths, order, cuts):
+for make in (table, sizes, ends, limits, areas, misfits, lengths, order, cuts, marks, outputs):
     dice.seed(make.__name__)
     make()
-for cases in KINDS.values():
+for kind, cases in KINDS.items():
     sys.stdout.buffer.write(struct.pack('<I', len(cases)))
     for text in cases:
         sys.stdout.buffer.write(struct.pack('<I', len(text)) + text)
+    print(kind, len(cases), 'right', len(cases), file=sys.stderr)

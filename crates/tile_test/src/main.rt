@@ -1,13 +1,15 @@
 // Replays tile calls (tests/tiles.py made `stdin`): what the published Rust
 // answered, what the rule for tiles gives around the block's sizes and at the
-// lines' ends, each refusal, and squeezes uncut and cut. The answer, every sample
-// of the output and the samples around it are compared. Prints, for each kind of
-// case, how many there were and how many came out right.
+// lines' ends, each refusal, squeezes uncut and cut, and samples at the ends of the
+// plain range and one past them. The answer, the mark, every sample of the output and
+// the samples around it are compared, by a call that tells a mark and by one that does
+// not. Prints, for each kind of case, how many there were and how many came out right.
 #![tactic(auto)]
 
 ghost use Rattle.std.specs.Prelude.{◌<◌, ◌≤◌};
 
-use numbers::answer_of;
+use numbers::Refusal;
+use range::{Marked, Marking, Unmarked};
 use samples::{GUARD, decode, fill, holds, kept, word_at};
 use std::io;
 use std::io::Read;
@@ -15,7 +17,7 @@ use tile::Sides;
 
 // The bytes of a case's head. The samples of the first four slices follow, and those
 // of the output where the answer is 0.
-const HEAD: usize = 76;
+const HEAD: usize = 80;
 
 // Room for a case's bytes, and for the samples of its slices.
 const CASE: usize = 8192;
@@ -23,7 +25,7 @@ const CASE: usize = 8192;
 const ROOM: usize = 1024;
 
 // The kinds of cases, in the order of `stdin`.
-const KINDS: [&str; 10] = [
+const KINDS: [&str; 12] = [
     "published ",
     "table ",
     "sizes ",
@@ -34,6 +36,8 @@ const KINDS: [&str; 10] = [
     "lengths ",
     "order ",
     "cuts ",
+    "marks ",
+    "outputs ",
 ];
 
 // The head of a case, in this order: numbers of four bytes each, sides of eight. The
@@ -47,6 +51,7 @@ struct Head {
     outs: Sides,
     // Of averages, residuals, next line, previous line and output.
     lengths: [u32; 5],
+    outside: bool,
 }
 
 impl Head {
@@ -58,6 +63,7 @@ impl Head {
             ress: sides_at(bytes, 24),
             outs: sides_at(bytes, 40),
             lengths: [56, 60, 64, 68, 72].map(|at| word_at(bytes, at)),
+            outside: word_at(bytes, 76) != 0,
         }
     }
 
@@ -69,14 +75,14 @@ impl Head {
         avg as usize + res as usize + next as usize + prev as usize
     }
 
-    // The call's answer. The four slices that are read stand one after the other; none
+    // What the call tells. The four slices that are read stand one after the other; none
     // where there are fewer samples.
-    fn call(&self, given: &[i32], out: &mut [i32]) -> Option<u32> {
+    fn call<M: Marking>(&self, given: &[i32], out: &mut [i32]) -> Option<Result<bool, Refusal>> {
         let (avg, rest) = given.split_at_checked(self.lengths[0] as usize)?;
         let (res, rest) = rest.split_at_checked(self.lengths[1] as usize)?;
         let (next, rest) = rest.split_at_checked(self.lengths[2] as usize)?;
         let (prev, _) = rest.split_at_checked(self.lengths[3] as usize)?;
-        Some(answer_of(tile::squeeze_tile(
+        Some(tile::squeeze_tile::<M>(
             self.horizontal,
             self.avgs,
             self.ress,
@@ -86,7 +92,7 @@ impl Head {
             next,
             prev,
             out,
-        )))
+        ))
     }
 
     // Whether the room holds the wanted output, after a refusal none and what stood there,
@@ -98,6 +104,24 @@ impl Head {
         } else {
             wanted.is_empty() & kept(room, 0, room.len())
         }
+    }
+
+    // Whether the call gives its answer, this mark and its output; none where the slices
+    // have no room.
+    fn right<M: Marking>(
+        &self,
+        outside: bool,
+        given: &[i32],
+        wanted: &[u8],
+        room: &mut [i32],
+    ) -> Option<bool> {
+        fill(room);
+        let out = room.get_mut(GUARD..GUARD + self.lengths[4] as usize)?;
+        let told = match self.call::<M>(given, out)? {
+            Ok(mark) => (0, mark),
+            Err(refusal) => (refusal.number(), false),
+        };
+        Some((told == (self.answer, outside)) & self.left_right(wanted, room))
     }
 }
 
@@ -119,22 +143,17 @@ fn sides_at(bytes: &[u8; HEAD], at: usize) -> Sides
     }
 }
 
-// Whether the call of a case gives its answer and its output; none where the case is
-// cut short, or its slices have no room.
+// Whether the calls of a case come out right; none where the case is cut short, or its
+// slices have no room.
 fn agrees(case: &[u8], slices: &mut [i32], room: &mut [i32]) -> Option<bool> {
     let (head, samples) = case.split_first_chunk()?;
     let head = Head::read(head);
     let n = head.given();
     let (given, wanted) = samples.split_at_checked(4 * n)?;
-    let to = GUARD + head.lengths[4] as usize;
-    if (slices.len() < n) | (room.len() < to + GUARD) {
-        return None;
-    }
-    let slices = &mut slices[..n];
+    let slices = slices.get_mut(..n)?;
     decode(given, slices);
-    fill(room);
-    let answer = head.call(slices, &mut room[GUARD..to])?;
-    Some((answer == head.answer) & head.left_right(wanted, room))
+    let marked = head.right::<Marked>(head.outside, slices, wanted, room)?;
+    Some(marked & head.right::<Unmarked>(false, slices, wanted, room)?)
 }
 
 // Replays the cases of the next kind and says how many are right.
