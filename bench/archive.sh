@@ -15,7 +15,7 @@ if [ ! -f "$old/libbefore.a" ]; then
     fi
     (cd "$old/tree" && tools/archive.sh squeeze > /dev/null 2>&1)
     cp "$old/tree/target/staticlib/libsqueeze.a" "$old/libbefore.a"
-    for name in tile rebuild write grid_rect listing layout record; do
+    for name in tile rebuild write tile_marked rebuild_marked write_marked grid_rect listing layout record; do
         objcopy --redefine-sym "squeeze_$name=before_$name" "$old/libbefore.a"
     done
 fi

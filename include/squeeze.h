@@ -54,11 +54,35 @@ uint32_t squeeze_rebuild(const uint8_t *record, size_t record_len,
                          int32_t *picture, size_t picture_len,
                          int32_t *work, size_t work_len);
 
+/* squeeze_rebuild, which also tells whether the run leaves the plain range,
+   -268,435,456 to 268,435,455. mark: mark[0] is 1 or 0 afterwards; what is past it
+   stays. 1: some pair of some step has a sample outside, which may be its average,
+   its residual, the next average, the output before it or one of the two that it
+   makes; or an average outside is copied. 0: every sample read or made in any step
+   lies inside, so the picture is the one that the standard gives. What no step
+   reads doesn't count: a record without steps is never marked, and a channel that
+   no step touches marks nothing. A picture that lies inside is marked where a
+   residual doesn't. Answer and other slices are those of squeeze_rebuild; without
+   a number for the mark: refused with 12. A refusal leaves the mark as it was. */
+uint32_t squeeze_rebuild_marked(const uint8_t *record, size_t record_len,
+                                const int32_t *pyramid, size_t pyramid_len,
+                                int32_t *picture, size_t picture_len,
+                                int32_t *work, size_t work_len,
+                                uint32_t *mark, size_t mark_len);
+
 /* Writes the pyramid of a picture: the reverse. */
 uint32_t squeeze_write(const uint8_t *record, size_t record_len,
                        const int32_t *picture, size_t picture_len,
                        int32_t *pyramid, size_t pyramid_len,
                        int32_t *work, size_t work_len);
+
+/* squeeze_write with a mark, which is the one that squeeze_rebuild_marked gives for
+   the pyramid written. */
+uint32_t squeeze_write_marked(const uint8_t *record, size_t record_len,
+                              const int32_t *picture, size_t picture_len,
+                              int32_t *pyramid, size_t pyramid_len,
+                              int32_t *work, size_t work_len,
+                              uint32_t *mark, size_t mark_len);
 
 /* One tile of an inverse squeeze, horizontal unless the first number is 0:
    aw by ah averages, rw by rh residuals, ow by oh samples of output. next: the
@@ -72,6 +96,21 @@ uint32_t squeeze_tile(uint32_t horizontal,
                       const int32_t *next, size_t next_len,
                       const int32_t *prev, size_t prev_len,
                       int32_t *out, size_t out_len);
+
+/* squeeze_tile with a mark, as in squeeze_rebuild_marked: of the pairs of this tile,
+   and of the averages that it copies, which are its last line where there is one
+   average more than residuals. prev counts where there is a pair, next where
+   there is a pair and no such last line. A squeeze is marked exactly if one of
+   the tiles that it is cut into is. */
+uint32_t squeeze_tile_marked(uint32_t horizontal,
+                             size_t aw, size_t ah, size_t rw, size_t rh,
+                             size_t ow, size_t oh,
+                             const int32_t *avg, size_t avg_len,
+                             const int32_t *res, size_t res_len,
+                             const int32_t *next, size_t next_len,
+                             const int32_t *prev, size_t prev_len,
+                             int32_t *out, size_t out_len,
+                             uint32_t *mark, size_t mark_len);
 
 /* The listing of a record as text: the plan's steps, the channels that it
    leaves and how many of them are coarse: those at the front that are meta, of

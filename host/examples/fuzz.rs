@@ -3,8 +3,8 @@
 //!
 //! `cargo run --release --example fuzz -- [COUNT [SEED]]`; 1,000,000 calls with
 //! seed 1 if not given. Exit status 1 if anything differs, if a function never gave
-//! an answer that it can give, or if strips, versions or origins weren't met in all
-//! their ways.
+//! an answer that it can give, or if strips, versions, origins or marks weren't met in
+//! all their ways.
 
 use squeeze_compare::fuzz::{run, Report, ANSWERS, FUNCTIONS};
 
@@ -23,11 +23,14 @@ fn main() {
     print(&report, count, seed);
     let missing = report.never_met();
     let (strips, versions) = (report.strips.never_met(), report.versions.never_met());
-    let origins = report.origins.never_met();
-    let all_met =
-        missing.is_empty() && strips.is_empty() && versions.is_empty() && origins.is_empty();
+    let (origins, marks) = (report.origins.never_met(), report.marks.never_met());
+    let all_met = missing.is_empty()
+        && strips.is_empty()
+        && versions.is_empty()
+        && origins.is_empty()
+        && marks.is_empty();
     if !all_met {
-        println!("never met: {missing:?} {strips:?} {versions:?} {origins:?}");
+        println!("never met: {missing:?} {strips:?} {versions:?} {origins:?} {marks:?}");
     }
     if !all_met || !report.differences.is_empty() {
         std::process::exit(1);
@@ -41,13 +44,13 @@ fn usage() -> ! {
 
 fn print(report: &Report, count: u64, seed: u64) {
     println!("{count} calls, seed {seed}; how often each answer was met");
-    print!("{:<10}", "");
+    print!("{:<14}", "");
     for answer in 0..ANSWERS {
         print!(" {answer:>7}");
     }
     println!();
     for ((name, _), row) in FUNCTIONS.iter().zip(&report.met) {
-        print!("{name:<10}");
+        print!("{name:<14}");
         for times in row {
             print!(" {times:>7}");
         }
@@ -59,6 +62,8 @@ fn print(report: &Report, count: u64, seed: u64) {
     report.versions.print();
     println!("origins: how often each way was met");
     report.origins.print();
+    println!("marks: how often each way was met");
+    report.marks.print();
     println!("differences: {}", report.differences.len());
     for text in &report.differences {
         println!("{text}");

@@ -1,4 +1,4 @@
-//! The seven functions of `include/squeeze.h`. Each asks for aligned pointers and
+//! The ten functions of `include/squeeze.h`. Each asks for aligned pointers and
 //! for slices that don't overlap, an empty slice for any pointer, null among
 //! them; nothing else. Each answers 0 or the number of a refusal. Public for the
 //! comparisons, which pass what the safe functions can't express.
@@ -15,6 +15,19 @@ extern "C" {
         work_len: usize,
     ) -> u32;
 
+    pub fn squeeze_rebuild_marked(
+        record: *const u8,
+        record_len: usize,
+        pyramid: *const i32,
+        pyramid_len: usize,
+        picture: *mut i32,
+        picture_len: usize,
+        work: *mut i32,
+        work_len: usize,
+        mark: *mut u32,
+        mark_len: usize,
+    ) -> u32;
+
     pub fn squeeze_write(
         record: *const u8,
         record_len: usize,
@@ -24,6 +37,19 @@ extern "C" {
         pyramid_len: usize,
         work: *mut i32,
         work_len: usize,
+    ) -> u32;
+
+    pub fn squeeze_write_marked(
+        record: *const u8,
+        record_len: usize,
+        picture: *const i32,
+        picture_len: usize,
+        pyramid: *mut i32,
+        pyramid_len: usize,
+        work: *mut i32,
+        work_len: usize,
+        mark: *mut u32,
+        mark_len: usize,
     ) -> u32;
 
     pub fn squeeze_tile(
@@ -44,6 +70,28 @@ extern "C" {
         prev_len: usize,
         out: *mut i32,
         out_len: usize,
+    ) -> u32;
+
+    pub fn squeeze_tile_marked(
+        horizontal: u32,
+        aw: usize,
+        ah: usize,
+        rw: usize,
+        rh: usize,
+        ow: usize,
+        oh: usize,
+        avg: *const i32,
+        avg_len: usize,
+        res: *const i32,
+        res_len: usize,
+        next: *const i32,
+        next_len: usize,
+        prev: *const i32,
+        prev_len: usize,
+        out: *mut i32,
+        out_len: usize,
+        mark: *mut u32,
+        mark_len: usize,
     ) -> u32;
 
     pub fn squeeze_listing(

@@ -1,6 +1,6 @@
 //! Tiles of one squeeze, and the rectangles that they cover.
 
-use crate::{answer, ffi, Refusal};
+use crate::{answer, ffi, marked, Refusal};
 
 /// Width and height of a rectangle of samples.
 #[derive(Clone, Copy, Debug, PartialEq, Eq, Hash)]
@@ -109,6 +109,56 @@ pub fn tile(
             out.len(),
         )
     })
+}
+
+/// [`tile`](fn@tile), and its mark, as [`rebuild_marked`](crate::rebuild_marked)
+/// explains it: of the pairs of this tile, and of the averages that it copies. `prev`
+/// counts where there is a pair, and `next` where there is one and no average more than
+/// residuals. A squeeze that is cut into tiles is marked exactly if one of them is.
+///
+/// ```
+/// use squeeze::{tile_marked, Size, TileSizes};
+///
+/// let sizes = TileSizes::of_output(true, Size { width: 2, height: 1 });
+/// let mut out = [0; 2];
+/// assert!(!tile_marked(&sizes, &[0], &[0], &[268_435_455], &[], &mut out)?);
+/// assert!(tile_marked(&sizes, &[0], &[0], &[268_435_456], &[], &mut out)?);
+/// # Ok::<(), squeeze::Refusal>(())
+/// ```
+pub fn tile_marked(
+    sizes: &TileSizes,
+    avg: &[i32],
+    residual: &[i32],
+    next: &[i32],
+    prev: &[i32],
+    out: &mut [i32],
+) -> Result<bool, Refusal> {
+    let mut mark = [0];
+    // SAFETY: as in `tile`.
+    answer(unsafe {
+        ffi::squeeze_tile_marked(
+            u32::from(sizes.horizontal),
+            sizes.avg.width,
+            sizes.avg.height,
+            sizes.residual.width,
+            sizes.residual.height,
+            sizes.output.width,
+            sizes.output.height,
+            avg.as_ptr(),
+            avg.len(),
+            residual.as_ptr(),
+            residual.len(),
+            next.as_ptr(),
+            next.len(),
+            prev.as_ptr(),
+            prev.len(),
+            out.as_mut_ptr(),
+            out.len(),
+            mark.as_mut_ptr(),
+            mark.len(),
+        )
+    })?;
+    Ok(marked(mark))
 }
 
 /// The kind of grid that a channel is cut by. Other numbers than the three

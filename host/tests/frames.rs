@@ -105,6 +105,6 @@ fn frames_added_up() {
     for (bytes, calls) in &needs {
         println!("{bytes:>7} bytes: {calls}");
     }
-    assert_eq!(needs.len(), 7);
+    assert_eq!(needs.len(), 10);
     assert!(needs.iter().all(|need| need.0 <= BOUND), "{needs:?}");
 }

@@ -10,6 +10,7 @@ fn short_run() {
     assert_eq!(report.strips.never_met(), []);
     assert_eq!(report.versions.never_met(), []);
     assert_eq!(report.origins.never_met(), []);
+    assert_eq!(report.marks.never_met(), []);
     assert!(report.met.iter().all(|row| row[0] > 1_000));
     assert_eq!(report.met.iter().flatten().sum::<u64>(), 150_000);
 }

@@ -79,7 +79,7 @@ fn rust_functions(text: &str) -> Vec<Function> {
 #[test]
 fn declarations_agree() {
     let header = header_functions();
-    assert_eq!(header.len(), 7, "{header:?}");
+    assert_eq!(header.len(), 10, "{header:?}");
     // Every function answers a number.
     assert!(header.iter().all(|(_, _, result)| result == "u32"));
     assert_eq!(rust_functions(include_str!("../src/ffi.rs")), header);
@@ -93,6 +93,30 @@ fn rooms_agree() {
     assert!(text.contains("8,192 bytes hold every listing") && squeeze::LISTING_ROOM == 8_192);
     assert!(text.contains("4, 192, 1,024 and 256 hold every layout"));
     assert_eq!(squeeze::LAYOUT_ROOM, [4, 192, 1_024, 256]);
+}
+
+/// A marked function takes what the other takes, and then the mark.
+#[test]
+fn marked_functions_agree() {
+    let header = header_functions();
+    let parameters = |name: &str| {
+        let found = header.iter().find(|(known, _, _)| known == name);
+        found.expect(name).1.clone()
+    };
+    for name in ["squeeze_rebuild", "squeeze_write", "squeeze_tile"] {
+        let mark = ["*mut u32", "usize"].map(String::from).to_vec();
+        let expected = [parameters(name), mark].concat();
+        assert_eq!(parameters(&format!("{name}_marked")), expected);
+    }
+}
+
+/// The range that the header says is the model's.
+#[test]
+fn ranges_agree() {
+    let text = HEADER.split_whitespace().collect::<Vec<_>>().join(" ");
+    assert!(text.contains("the plain range, -268,435,456 to 268,435,455."));
+    let range = squeeze_model::marks::PLAIN;
+    assert_eq!(range, -268_435_456..=268_435_455);
 }
 
 #[test]

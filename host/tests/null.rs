@@ -57,6 +57,47 @@ fn rebuild_and_write() {
 }
 
 #[test]
+fn rebuild_and_write_marked() {
+    let cases = [
+        (&[][..], 0, 0, 3, "nothing at all"),
+        (&[], 0, 1, 3, "no record and no samples"),
+        (NO_SAMPLES, 0, 0, 12, "a picture without samples, no mark"),
+        (NO_SAMPLES, 0, 1, 0, "a picture without samples"),
+        (RECORD, 0, 0, 12, "no samples and no mark"),
+        (RECORD, 0, 1, 12, "no samples"),
+        (RECORD, 12, 0, 12, "no mark"),
+        (RECORD, 12, 1, 0, "a run"),
+    ];
+    for (record, samples, numbers, expected, why) in cases {
+        for nulls in 0..32 {
+            for call in [ffi::squeeze_rebuild_marked, ffi::squeeze_write_marked] {
+                let mut record = record.to_vec();
+                let [mut input, mut output, mut work] = [samples; 3].map(|n| vec![5; n]);
+                let mut mark = vec![77; numbers];
+                // SAFETY: as above.
+                let answer = unsafe {
+                    call(
+                        at(&mut record, nulls, 0),
+                        record.len(),
+                        at(&mut input, nulls, 1),
+                        input.len(),
+                        at(&mut output, nulls, 2),
+                        output.len(),
+                        at(&mut work, nulls, 3),
+                        work.len(),
+                        at(&mut mark, nulls, 4),
+                        mark.len(),
+                    )
+                };
+                assert_eq!(answer, expected, "{why}, nulls {nulls:05b}");
+                let left = if expected == 0 { 0 } else { 77 };
+                assert_eq!(mark, vec![left; numbers], "{why}, nulls {nulls:05b}");
+            }
+        }
+    }
+}
+
+#[test]
 fn tile() {
     // Along the squeeze and across it: averages, residuals; then the lengths of
     // averages, residuals, next line, previous line and output.
@@ -112,6 +153,36 @@ fn tile() {
                 };
                 (answer, out)
             };
+            let marked = |nulls, numbers| {
+                let [mut avg, mut res, mut next, mut prev, mut out] =
+                    lengths.map(|n| (0..n).map(|k| 7 * k % 5).collect::<Vec<i32>>());
+                let mut mark = vec![77; numbers];
+                // SAFETY: as above.
+                let answer = unsafe {
+                    ffi::squeeze_tile_marked(
+                        horizontal,
+                        sizes[0].0,
+                        sizes[0].1,
+                        sizes[1].0,
+                        sizes[1].1,
+                        sizes[2].0,
+                        sizes[2].1,
+                        at(&mut avg, nulls, 0),
+                        avg.len(),
+                        at(&mut res, nulls, 1),
+                        res.len(),
+                        at(&mut next, nulls, 2),
+                        next.len(),
+                        at(&mut prev, nulls, 3),
+                        prev.len(),
+                        at(&mut out, nulls, 4),
+                        out.len(),
+                        at(&mut mark, nulls, 5),
+                        mark.len(),
+                    )
+                };
+                (answer, out, mark)
+            };
             let without = call(0);
             assert_eq!(without.0, expected, "{why}, {horizontal}");
             for nulls in 1..32 {
@@ -119,6 +190,19 @@ fn tile() {
                     call(nulls),
                     without,
                     "{why}, {horizontal}, nulls {nulls:05b}"
+                );
+            }
+            let refused = if expected == 0 { 12 } else { expected };
+            let left = if expected == 0 { 0 } else { 77 };
+            for nulls in 0..64 {
+                let (answer, out, mark) = marked(nulls, 1);
+                assert_eq!((answer, out), without, "{why}, nulls {nulls:06b}");
+                assert_eq!(mark, [left], "{why}, nulls {nulls:06b}");
+                let (answer, _, mark) = marked(nulls, 0);
+                assert_eq!(
+                    (answer, mark),
+                    (refused, vec![]),
+                    "{why}, nulls {nulls:06b}"
                 );
             }
         }

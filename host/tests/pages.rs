@@ -7,7 +7,7 @@ use squeeze::{Size, TileSizes};
 use squeeze_compare::parts::{self, Parts};
 use squeeze_compare::random::Random;
 use squeeze_compare::{layouts, number, raw, records, rects, Tally};
-use squeeze_model::{layout, list, listing, record, record_writer, run, tile};
+use squeeze_model::{layout, list, listing, marks, record, record_writer, run, tile};
 use std::ffi::c_void;
 use std::ptr;
 
@@ -73,10 +73,7 @@ fn whole_runs() {
     let mut accepted = 0;
     for k in 0..20_000 {
         let bytes = records::some(&mut random);
-        let samples = match record::judge(&bytes) {
-            Ok(plan) => list::total(plan.layout()).min(1 << 14),
-            Err(_) => 5,
-        };
+        let samples = some_samples(&bytes);
         let input = random.samples(samples);
         let end = k % 2 == 0;
         let lent = f0.lend(&bytes, end);
@@ -95,6 +92,51 @@ fn whole_runs() {
         accepted += u32::from(expected == 0);
     }
     assert!(accepted > 2_000);
+}
+
+/// The samples of a record, up to some thousands; a few for a refused one.
+fn some_samples(record: &[u8]) -> usize {
+    match record::judge(record) {
+        Ok(plan) => list::total(plan.layout()).min(1 << 14),
+        Err(_) => 5,
+    }
+}
+
+/// With one number for the mark, or none.
+#[test]
+fn marked_runs() {
+    let mut random = Random::new(97);
+    let [mut f0, mut f1, mut f2, mut f3, mut f4] = fences();
+    let mut marks = [0; 2];
+    for k in 0..20_000 {
+        let bytes = records::some(&mut random);
+        let input = random.near_plain(some_samples(&bytes));
+        let (back, end) = (k % 4 < 2, k % 2 == 0);
+        let mut model_mark = vec![9; random.pick(&[0, 1, 1, 1])];
+        let lent = f0.lend(&bytes, end);
+        let read = f1.lend(&input, end);
+        let (out, work) = (f2.lend(&input, end), f3.lend(&input, end));
+        let mark = f4.lend(&model_mark, end);
+        let (mut model_out, mut model_work) = (input.clone(), input.clone());
+        let model = match back {
+            true => run::rebuild_marked,
+            false => run::write_marked,
+        };
+        let answer = raw::run_marked(back, lent, read, out, work, mark);
+        let expected = model(
+            &bytes,
+            &input,
+            &mut model_out,
+            &mut model_work,
+            &mut model_mark,
+        );
+        assert_eq!(answer, expected, "{bytes:02x?}");
+        assert!(out == model_out && work == model_work && mark == model_mark);
+        if answer == 0 {
+            marks[mark[0] as usize] += 1;
+        }
+    }
+    assert!(marks.iter().all(|&number| number > 500), "{marks:?}");
 }
 
 #[test]
@@ -208,7 +250,8 @@ fn rectangles() {
 #[test]
 fn tiles() {
     let mut random = Random::new(92);
-    let [mut f0, mut f1, mut f2, mut f3, mut f4] = fences();
+    let [mut f0, mut f1, mut f2, mut f3, mut f4, mut f5] = fences();
+    let mut marks_met = [0; 2];
     for k in 0..20_000 {
         let end = k % 2 == 0;
         let horizontal = random.once_in(2);
@@ -223,17 +266,20 @@ fn tiles() {
             line(&mut random),
             line(&mut random),
         ];
-        let [avg, residual, next, prev] = lengths.map(|n| random.samples(n));
+        let [avg, residual, next, prev] = lengths.map(|n| match k % 3 {
+            0 => random.samples(n),
+            _ => random.near_plain(n),
+        });
         let mut model_out = vec![3; width * height];
         let out = f4.lend(&model_out, end);
-        let answer = squeeze::tile(
-            &sizes,
-            f0.lend(&avg, end),
+        let inputs = [
+            &*f0.lend(&avg, end),
             f1.lend(&residual, end),
             f2.lend(&next, end),
             f3.lend(&prev, end),
-            out,
-        );
+        ];
+        let [lent_avg, lent_residual, lent_next, lent_prev] = inputs;
+        let answer = squeeze::tile(&sizes, lent_avg, lent_residual, lent_next, lent_prev, out);
         assert_eq!(answer, Ok(()));
         let model_sizes = tile::Sizes {
             horizontal,
@@ -243,5 +289,20 @@ fn tiles() {
         };
         tile::tile(&model_sizes, &avg, &residual, &next, &prev, &mut model_out);
         assert!(out == model_out);
+        let all = [model_sizes.avg, model_sizes.residual, model_sizes.output];
+        let mark = f5.lend(&[9], end);
+        out.fill(3);
+        assert_eq!(
+            raw::tile_marked(horizontal.into(), all, inputs, out, mark),
+            0
+        );
+        assert!(out == model_out);
+        let expected = marks::tile_back(&model_sizes, &avg, &residual, &next, &prev);
+        assert_eq!(mark, [expected.into()]);
+        marks_met[usize::from(expected)] += 1;
     }
+    assert!(
+        marks_met.iter().all(|&number| number > 1_000),
+        "{marks_met:?}"
+    );
 }

@@ -116,6 +116,13 @@ fn plan_of_a_record() {
     assert_eq!(check(&cases).met(), [0, 5, 6, 7, 8, 9, 10, 11]);
 }
 
+/// What a call that is answered so answers with so many numbers for the mark: none is
+/// refused after everything else.
+fn marks(answer: u32) -> [(usize, u32); 4] {
+    let none = if answer == 0 { 12 } else { answer };
+    [(0, none), (1, answer), (2, answer), (9, answer)]
+}
+
 #[test]
 fn lengths_of_slices() {
     let record = Record::new().channel(4, 3);
@@ -144,6 +151,10 @@ fn lengths_of_slices() {
                 work: &vec![3; work],
             };
             assert_eq!(must(run.compare()).answer, expected, "{why}, back: {back}");
+            for (numbers, expected) in marks(expected) {
+                let answer = must(run.compare_room(numbers)).answer;
+                assert_eq!(answer, expected, "{why}, {numbers} for the mark");
+            }
         }
     }
 }
@@ -195,6 +206,10 @@ fn tile_calls() {
                 out: &out,
             };
             assert_eq!(must(tile.compare()).answer, expected, "{why}, {horizontal}");
+            for (numbers, expected) in marks(expected) {
+                let answer = must(tile.compare_room(numbers)).answer;
+                assert_eq!(answer, expected, "{why}, {numbers} for the mark");
+            }
         }
     }
 }

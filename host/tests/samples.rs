@@ -90,6 +90,42 @@ fn corners_in_every_combination() {
     assert_eq!(pairs.compared, 19usize.pow(4));
 }
 
+/// Each pair alone in its call, so that its mark is its own.
+#[test]
+fn marks_at_the_corners() {
+    let corners = [
+        i32::MIN,
+        -(1 << 28) - 1,
+        -(1 << 28),
+        -1,
+        0,
+        2,
+        (1 << 28) - 1,
+        1 << 28,
+        i32::MAX,
+    ];
+    let mut marks = [0; 2];
+    for code in 0..corners.len().pow(4) {
+        let inputs = [0, 1, 2, 3].map(|k| [corners[code / corners.len().pow(k) % corners.len()]]);
+        for (horizontal, output) in [(1, (2, 1)), (0, (1, 2))] {
+            let tile = Tile {
+                horizontal,
+                sizes: [(1, 1), (1, 1), output],
+                inputs: inputs.each_ref().map(|sample| &sample[..]),
+                out: &[-9; 2],
+            };
+            let outcome = must(tile.compare());
+            assert_eq!(outcome.answer, 0);
+            let all = [&inputs.concat()[..], &outcome.output].concat();
+            let outside = |sample: &i32| !(-(1 << 28)..1 << 28).contains(sample);
+            assert_eq!(outcome.marked, all.iter().any(outside), "{tile:?}");
+            marks[usize::from(outcome.marked)] += 1;
+        }
+    }
+    println!("corner pairs by mark: {marks:?}");
+    assert!(marks.iter().all(|&number| number > 500), "{marks:?}");
+}
+
 #[test]
 fn a_small_range_exhaustively() {
     let mut pairs = Pairs::default();

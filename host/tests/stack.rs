@@ -96,13 +96,16 @@ impl Painted {
 }
 
 /// The exported functions.
-const FUNCTIONS: [&str; 7] = [
+const FUNCTIONS: [&str; 10] = [
     "rebuild",
+    "rebuild_marked",
     "write",
+    "write_marked",
     "listing",
     "layout",
     "record",
     "tile",
+    "tile_marked",
     "grid_rect",
 ];
 
@@ -116,6 +119,7 @@ struct Calls<'a> {
     text: Vec<u8>,
     length: [u32; 1],
     numbers: [Vec<u32>; 4],
+    mark: [u32; 1],
 }
 
 impl Calls<'_> {
@@ -139,6 +143,7 @@ impl Calls<'_> {
             text: vec![3; squeeze::LISTING_ROOM],
             length: [4],
             numbers: squeeze::LAYOUT_ROOM.map(|room| vec![5; room]),
+            mark: [6],
         }
     }
 
@@ -153,23 +158,29 @@ impl Calls<'_> {
         let (output, work) = (&mut self.output, &mut self.work);
         let (text, length) = (&mut self.text, &mut self.length);
         let [counts, steps, channels, origins] = &mut self.numbers;
+        let mark = &mut self.mark;
         match function {
             "rebuild" => number(&squeeze::rebuild(record, input, output, work)),
             "write" => number(&squeeze::write(record, input, output, work)),
+            "rebuild_marked" => raw::run_marked(true, record, input, output, work, mark),
+            "write_marked" => raw::run_marked(false, record, input, output, work, mark),
             "listing" => raw::listing(record, text, length),
             "layout" => {
                 let layout = squeeze::layout_numbers(record, counts, steps, channels, origins);
                 number(&layout)
             }
             "record" => raw::record(parts.version, &parts.channels, &parts.steps, text, length),
-            "tile" => tiles(),
+            "tile" => tiles(raw::tile),
+            "tile_marked" => tiles(|horizontal, sizes, inputs, out| {
+                raw::tile_marked(horizontal, sizes, inputs, out, mark)
+            }),
             _ => rectangle(),
         }
     }
 }
 
 /// Tiles of nine blocks and a rest, with and without neighbours, both ways.
-fn tiles() -> u32 {
+fn tiles(mut tile: impl FnMut(u32, [(usize, usize); 3], raw::Inputs, &mut [i32]) -> u32) -> u32 {
     static ONES: [i32; 35 * 75] = [1; 35 * 75];
     let mut out = OUT.lock().expect("one thread at a time");
     let mut answer = 0;
@@ -179,7 +190,7 @@ fn tiles() -> u32 {
             _ => (along, 75),
         };
         let inputs = [35 * 75, 34 * 75, line, line].map(|length| &ONES[..length]);
-        answer |= raw::tile(horizontal, [35, 34, 69].map(size), inputs, &mut out[..]);
+        answer |= tile(horizontal, [35, 34, 69].map(size), inputs, &mut out[..]);
     }
     answer
 }
@@ -193,7 +204,7 @@ fn rectangle() -> u32 {
 /// What a function answers on a record that the others answer `answer`.
 fn expected(function: &str, answer: u32) -> u32 {
     match function {
-        "tile" | "grid_rect" => 0,
+        "tile" | "tile_marked" | "grid_rect" => 0,
         _ => answer,
     }
 }
@@ -303,7 +314,7 @@ fn at_most_64_kib_for_any_call() {
     }
     println!("the most bytes of stack that each function took:");
     for (function, (bytes, why)) in FUNCTIONS.iter().zip(needs) {
-        println!("{function:<10} {bytes:>7}  {why}");
+        println!("{function:<14} {bytes:>7}  {why}");
     }
     assert!(needs.iter().all(|need| need.0 <= BOUND), "{needs:?}");
 }

@@ -1,19 +1,26 @@
 //! Random calls of every exported function, compared with the model.
 
+use crate::cuts::Draw;
 use crate::random::Random;
 use crate::runs::Run;
 use crate::tiles::Tile;
 use crate::ways::Ways;
-use crate::{layouts, lists, origins, parts, records, rects, strips, versions};
+use crate::{layouts, lists, marks, origins, parts, records, rects, strips, versions};
 use squeeze::{GridQuery, Kind, LISTING_ROOM, RECORD_ROOM};
-use squeeze_model::{list, listing, record};
+use squeeze_model::{list, listing, record, run as model_run};
 
 /// The exported functions, in the order of the report's rows, and the answers
 /// that each can give.
-pub const FUNCTIONS: [(&str, &[usize]); 7] = [
+pub const FUNCTIONS: [(&str, &[usize]); 10] = [
     ("rebuild", &[0, 1, 2, 3, 4, 5, 6, 7, 8, 9, 10, 11, 12]),
     ("write", &[0, 1, 2, 3, 4, 5, 6, 7, 8, 9, 10, 11, 12]),
     ("tile", &[0, 5, 12, 13]),
+    (
+        "rebuild_marked",
+        &[0, 1, 2, 3, 4, 5, 6, 7, 8, 9, 10, 11, 12],
+    ),
+    ("write_marked", &[0, 1, 2, 3, 4, 5, 6, 7, 8, 9, 10, 11, 12]),
+    ("tile_marked", &[0, 5, 12, 13]),
     ("listing", &[0, 1, 2, 3, 4, 5, 6, 7, 8, 9, 10, 11, 12]),
     ("layout", &[0, 1, 2, 3, 4, 5, 6, 7, 8, 9, 10, 11, 12]),
     ("record", &[0, 3, 4, 5, 6, 7, 8, 9, 10, 11, 12]),
@@ -23,14 +30,15 @@ pub const FUNCTIONS: [(&str, &[usize]); 7] = [
 /// Answers 0 to 14.
 pub const ANSWERS: usize = 15;
 
-/// The answer of a call, and the ways in which it met a strip, a version and origins,
-/// if it did.
+/// The answer of a call, and the ways in which it met a strip, a version, origins and
+/// marks, if it did.
 #[derive(Default)]
 struct Met {
     answer: u32,
     strip: Option<strips::Way>,
     version: Option<versions::Way>,
     origins: Vec<origins::Way>,
+    marks: Vec<marks::Way>,
 }
 
 /// What was met, or what differs.
@@ -46,6 +54,8 @@ pub struct Report {
     pub versions: Ways<versions::Way>,
     /// How often origins were.
     pub origins: Ways<origins::Way>,
+    /// How often marks were.
+    pub marks: Ways<marks::Way>,
     /// The first differences found.
     pub differences: Vec<String>,
 }
@@ -57,6 +67,7 @@ impl Report {
             strips: Ways::new(&strips::WAYS),
             versions: Ways::new(&versions::WAYS),
             origins: Ways::new(&origins::WAYS),
+            marks: Ways::new(&marks::WAYS),
             differences: vec![],
         }
     }
@@ -78,6 +89,7 @@ impl Report {
                 self.strips.add(met.strip);
                 self.versions.add(met.version);
                 self.origins.add(met.origins);
+                self.marks.add(met.marks);
             }
             Err(text) => self.differences.push(text),
         }
@@ -89,14 +101,17 @@ pub fn run(count: u64, seed: u64) -> Report {
     let mut random = Random::new(seed);
     let mut report = Report::new();
     for _ in 0..count {
-        match random.below(11) {
-            0..=1 => report.add(0, whole_run(&mut random, true)),
-            2..=3 => report.add(1, whole_run(&mut random, false)),
-            4..=5 => report.add(2, tile(&mut random)),
-            6 => report.add(3, listing_text(&mut random)),
-            7 => report.add(4, layout(&mut random)),
-            8..=9 => report.add(5, record_of_numbers(&mut random)),
-            _ => report.add(6, grid_rect(&mut random)),
+        match random.below(14) {
+            0..=1 => report.add(0, whole_run(&mut random, true, None)),
+            2..=3 => report.add(1, whole_run(&mut random, false, None)),
+            4..=5 => report.add(2, tile(&mut random, None)),
+            6 => report.add(3, marked(&mut random, |r, room| whole_run(r, true, room))),
+            7 => report.add(4, marked(&mut random, |r, room| whole_run(r, false, room))),
+            8 => report.add(5, marked(&mut random, tile)),
+            9 => report.add(6, listing_text(&mut random)),
+            10 => report.add(7, layout(&mut random)),
+            11..=12 => report.add(8, record_of_numbers(&mut random)),
+            _ => report.add(9, grid_rect(&mut random)),
         }
         if report.differences.len() == 10 {
             break;
@@ -110,7 +125,14 @@ pub fn run(count: u64, seed: u64) -> Report {
 const LARGEST: usize = 1 << 14;
 const LARGEST_STRIP: usize = 1 << 18;
 
-fn whole_run(random: &mut Random, back: bool) -> Call {
+/// A call with none, one or two numbers for the mark.
+fn marked(random: &mut Random, call: fn(&mut Random, Option<usize>) -> Call) -> Call {
+    let numbers = random.pick(&[0, 1, 1, 1, 1, 2]);
+    call(random, Some(numbers))
+}
+
+/// A run; with so many numbers for the mark if that is given.
+fn whole_run(random: &mut Random, back: bool, numbers: Option<usize>) -> Call {
     let bytes = records::some(random);
     let samples = match record::judge(&bytes) {
         Ok(plan) => list::total(plan.layout()),
@@ -127,7 +149,8 @@ fn whole_run(random: &mut Random, back: bool) -> Call {
         let k = random.below(3);
         lengths[k] = random.pick(&[0, fitting.saturating_sub(1), fitting + 1, 2 * fitting]);
     }
-    let [input, output, work] = lengths.map(|length| random.samples(length));
+    let input = run_input(random, &bytes, back, lengths[0]);
+    let [output, work] = [lengths[1], lengths[2]].map(|length| random.samples(length));
     let run = Run {
         back,
         record: &bytes,
@@ -135,13 +158,32 @@ fn whole_run(random: &mut Random, back: bool) -> Call {
         output: &output,
         work: &work,
     };
-    let answer = run.compare()?.answer;
+    let whole = run.compare()?;
+    let outcome = numbers.map(|numbers| run.compare_room(numbers));
+    let outcome = outcome.transpose()?;
+    let answer = outcome.as_ref().unwrap_or(&whole).answer;
     Ok(Met {
         answer,
         strip: strips::of_run(&run, answer),
         version: versions::of_record(&bytes, answer),
+        marks: outcome.map_or(vec![], |outcome| marks::of_run(&run, &whole, &outcome)),
         ..Met::default()
     })
+}
+
+/// Samples for a run: over all 32 bits, or a picture near the plain range; its pyramid,
+/// now and then with one sample at an end of the range or next to it.
+fn run_input(random: &mut Random, bytes: &[u8], back: bool, length: usize) -> Vec<i32> {
+    if random.once_in(2) {
+        return random.samples(length);
+    }
+    let picture = random.near_plain(length);
+    let mut pyramid = picture.clone();
+    if !back || model_run::write(bytes, &picture, &mut pyramid, &mut picture.clone()) != 0 {
+        return picture;
+    }
+    random.move_to_an_end(&mut pyramid);
+    pyramid
 }
 
 /// Sides of a tile around its limits.
@@ -169,7 +211,8 @@ fn fitting(length: usize) -> usize {
     }
 }
 
-fn tile(random: &mut Random) -> Call {
+/// A tile; with so many numbers for the mark if that is given.
+fn tile(random: &mut Random, numbers: Option<usize>) -> Call {
     let horizontal = random.pick(&[0, 0, 0, 1, 1, 1, 2, u32::MAX]);
     let mut sizes = tile_sizes(random, horizontal != 0);
     if random.once_in(8) {
@@ -199,7 +242,8 @@ fn tile(random: &mut Random) -> Call {
         }
     };
     let lengths = sizes.map(|size| length(random, size));
-    let inputs = [lengths[0], lengths[1], lines[0], lines[1]].map(|n| random.samples(n));
+    let draw = random.pick(&[Random::samples as Draw, Random::near_plain]);
+    let inputs = [lengths[0], lengths[1], lines[0], lines[1]].map(|n| draw(random, n));
     let out = random.samples(lengths[2]);
     let tile = Tile {
         horizontal,
@@ -207,10 +251,14 @@ fn tile(random: &mut Random) -> Call {
         inputs: [&inputs[0], &inputs[1], &inputs[2], &inputs[3]],
         out: &out,
     };
-    let answer = tile.compare()?.answer;
+    let whole = tile.compare()?;
+    let outcome = numbers.map(|numbers| tile.compare_room(numbers));
+    let outcome = outcome.transpose()?;
+    let answer = outcome.as_ref().unwrap_or(&whole).answer;
     Ok(Met {
         answer,
         strip: strips::of_tile(&sizes, answer),
+        marks: outcome.map_or(vec![], |outcome| marks::of_tile(&tile, &whole, &outcome)),
         ..Met::default()
     })
 }
@@ -277,6 +325,7 @@ fn layout(random: &mut Random) -> Call {
         strip: strips::of_record(&bytes, answer),
         version: versions::of_record(&bytes, answer),
         origins: origins::of_layout(&bytes, need, room, answer),
+        ..Met::default()
     })
 }
 

@@ -6,10 +6,12 @@
 
 #![warn(missing_docs)]
 
+pub mod cuts;
 pub mod fuzz;
 mod guard;
 pub mod layouts;
 pub mod lists;
+pub mod marks;
 pub mod origins;
 pub mod parts;
 pub mod random;
@@ -29,6 +31,8 @@ pub struct Outcome {
     pub answer: u32,
     /// The output slice afterwards.
     pub output: Vec<i32>,
+    /// Whether the call is marked (document 02, A.3); a refused one isn't.
+    pub marked: bool,
 }
 
 /// An outcome, or what differs.

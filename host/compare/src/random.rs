@@ -56,4 +56,23 @@ impl Random {
     pub fn samples(&mut self, number: usize) -> Vec<i32> {
         (0..number).map(|_| self.sample()).collect()
     }
+
+    /// That many samples around 0 or around an end of the plain range (document 02,
+    /// A.3), of which some may lie outside by a little; and now and then one more by one.
+    pub fn near_plain(&mut self, number: usize) -> Vec<i32> {
+        let middle = self.pick(&[0, 0, 0, (1 << 28) - 5, 4 - (1 << 28)]);
+        let samples = (0..number).map(|_| middle + self.below(9) as i32 - 4);
+        let mut samples: Vec<i32> = samples.collect();
+        self.move_to_an_end(&mut samples);
+        samples
+    }
+
+    /// Moves, now and then, one of the samples to an end of the plain range or past it
+    /// by one.
+    pub fn move_to_an_end(&mut self, samples: &mut [i32]) {
+        const ENDS: [i32; 4] = [(1 << 28) - 1, 1 << 28, -(1 << 28), -(1 << 28) - 1];
+        if !samples.is_empty() && self.once_in(4) {
+            samples[self.below(samples.len())] = self.pick(&ENDS);
+        }
+    }
 }

@@ -2,7 +2,8 @@
 
 use crate::guard::Lent;
 use crate::random::Random;
-use crate::{expect, lists, must, number, Compared, Outcome, Tally};
+use crate::{expect, lists, must, number, raw, Compared, Outcome, Tally};
+use squeeze::Refusal;
 use squeeze_model::{list, record, refusal, run};
 
 /// One call of the plan run or of the writer.
@@ -20,44 +21,112 @@ pub struct Run<'a> {
     pub work: &'a [i32],
 }
 
+type Plain = fn(&[u8], &[i32], &mut [i32], &mut [i32]) -> Result<(), Refusal>;
+type Marked = fn(&[u8], &[i32], &mut [i32], &mut [i32]) -> Result<bool, Refusal>;
+
+/// What the model answers, and the slices that it leaves.
+struct Expected {
+    answer: u32,
+    output: Vec<i32>,
+    work: Vec<i32>,
+    mark: Vec<u32>,
+}
+
+impl Expected {
+    /// The mark; a refused call has none.
+    fn marked(&self) -> Option<bool> {
+        (self.answer == 0).then(|| self.mark[0] == 1)
+    }
+
+    fn outcome(self) -> Outcome {
+        Outcome {
+            answer: self.answer,
+            marked: self.marked().unwrap_or(false),
+            output: self.output,
+        }
+    }
+}
+
 impl Run<'_> {
-    /// Calls both sides and compares.
+    /// Calls both sides, without a mark and with one, and compares.
     pub fn compare(&self) -> Compared {
+        let expected = self.model(&[0xeeee_eeee]);
+        let (unmarked, marked): (Plain, Marked) = match self.back {
+            true => (squeeze::rebuild, squeeze::rebuild_marked),
+            false => (squeeze::write, squeeze::write_marked),
+        };
+        self.compare_call(&expected, |record, input, output, work| {
+            number(&unmarked(record, input, output, work))
+        })?;
+        let mut mark = None;
+        self.compare_call(&expected, |record, input, output, work| {
+            let answer = marked(record, input, output, work);
+            mark = answer.ok();
+            number(&answer)
+        })?;
+        expect(mark == expected.marked(), || {
+            let marks = format!("marked {mark:?}, model {:?}; ", expected.marked());
+            marks + &self.difference(expected.answer, expected.answer)
+        })?;
+        Ok(expected.outcome())
+    }
+
+    /// The marked C function with so many numbers for the mark.
+    pub fn compare_room(&self, numbers: usize) -> Compared {
+        let before = vec![0xeeee_eeee; numbers];
+        let expected = self.model(&before);
+        let mut mark = Lent::new(&before, 0x5a5a_000c);
+        self.compare_call(&expected, |record, input, output, work| {
+            raw::run_marked(self.back, record, input, output, work, mark.slice_mut())
+        })?;
+        let kept = expected.answer == 0 || mark.holds(&before);
+        expect(mark.holds(&expected.mark) && kept, || {
+            let marks = format!("mark {:?}, model {:?}; ", mark.slice(), expected.mark);
+            marks + &self.difference(expected.answer, expected.answer)
+        })?;
+        Ok(expected.outcome())
+    }
+
+    /// One call of the core, which is lent every slice between guards.
+    fn compare_call(
+        &self,
+        expected: &Expected,
+        call: impl FnOnce(&[u8], &[i32], &mut [i32], &mut [i32]) -> u32,
+    ) -> Result<(), String> {
         let record = Lent::new(self.record, 0xa5);
         let input = Lent::new(self.input, 0x5a5a_0001);
         let mut output = Lent::new(self.output, 0x5a5a_0002);
         let mut work = Lent::new(self.work, 0x5a5a_0003);
-        let call = if self.back {
-            squeeze::rebuild
-        } else {
-            squeeze::write
-        };
-        let answer = number(&call(
+        let answer = call(
             record.slice(),
             input.slice(),
             output.slice_mut(),
             work.slice_mut(),
-        ));
-        let (expected, model_output, model_work) = self.model();
-        let same = answer == expected
+        );
+        let same = answer == expected.answer
             && record.holds(self.record)
             && input.holds(self.input)
-            && output.holds(&model_output)
-            && work.holds(&model_work);
-        expect(same, || self.difference(answer, expected))?;
-        self.check_promises(answer, &model_output, &model_work)?;
-        Ok(Outcome {
-            answer,
-            output: model_output,
-        })
+            && output.holds(&expected.output)
+            && work.holds(&expected.work);
+        expect(same, || self.difference(answer, expected.answer))?;
+        self.check_promises(answer, output.slice(), work.slice())
     }
 
-    fn model(&self) -> (u32, Vec<i32>, Vec<i32>) {
+    fn model(&self, mark: &[u32]) -> Expected {
         let mut output = self.output.to_vec();
         let mut work = self.work.to_vec();
-        let call = if self.back { run::rebuild } else { run::write };
-        let answer = call(self.record, self.input, &mut output, &mut work);
-        (answer, output, work)
+        let mut mark = mark.to_vec();
+        let call = match self.back {
+            true => run::rebuild_marked,
+            false => run::write_marked,
+        };
+        let answer = call(self.record, self.input, &mut output, &mut work, &mut mark);
+        Expected {
+            answer,
+            output,
+            work,
+            mark,
+        }
     }
 
     /// What holds of every call, whatever the model says.
@@ -82,13 +151,15 @@ impl Run<'_> {
 }
 
 /// Both directions on one accepted record and slices of the right length: the
-/// writer on `samples` and back, the plan run on `samples` and forward again.
+/// writer on `samples` and back, the plan run on `samples` and forward again. Both
+/// runs of a round trip have one mark.
 pub fn round_trips(record: &[u8], samples: &[i32]) -> Result<(), String> {
     for back in [false, true] {
         let there = run_both(back, record, samples)?;
         let here = run_both(!back, record, &there.output)?;
         let accepted = there.answer == 0 && here.answer == 0;
-        expect(accepted && here.output == samples, || {
+        let same = here.output == samples && here.marked == there.marked;
+        expect(accepted && same, || {
             format!("round trip, back first: {back}; record {record:02x?}")
         })?;
     }

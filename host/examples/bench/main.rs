@@ -1,6 +1,7 @@
 //! Times the core against the plain Rust of `model/`, against a copy of as many
-//! samples, and whole runs against an earlier commit's archive where there is one
-//! (`bench/runs.sh`); and layouts against plain Rust.
+//! samples, and against an earlier commit's archive where there is one
+//! (`bench/runs.sh`); calls with a mark against those without; and layouts against plain
+//! Rust.
 //!
 //! `cargo run --release --example bench -- [SECONDS]` spends about so many
 //! seconds on each row (2 if not given).
@@ -8,6 +9,7 @@
 mod before;
 mod clock;
 mod layouts;
+mod marks;
 mod plans;
 
 use clock::{now, CLOCK};
@@ -84,6 +86,7 @@ fn main() {
     print_ratios(&rows);
     print_strips(&rows, &strips);
     print_beside(&rows, &beside);
+    marks::print(SIDES[3], budget);
     let [small, .., pairs, doubled] = &runs;
     layouts::print(&[small, pairs, doubled], budget);
 }
@@ -136,8 +139,13 @@ fn photograph(width: usize, height: usize) -> Vec<i32> {
     picture
 }
 
-/// One inverse squeeze over the whole picture as a single tile.
-fn tile(horizontal: bool, size: Size, picture: &[i32], budget: Duration) -> Times {
+/// One squeeze of the whole picture as a single tile: its sizes, those of the model, and
+/// averages and residuals.
+fn halves(
+    horizontal: bool,
+    size: Size,
+    picture: &[i32],
+) -> (TileSizes, model::tile::Sizes, Vec<i32>, Vec<i32>) {
     let Size { width, height } = size;
     let sizes = TileSizes::of_output(horizontal, size);
     let plain_size = |size: Size| (size.width, size.height);
@@ -154,6 +162,12 @@ fn tile(horizontal: bool, size: Size, picture: &[i32], budget: Duration) -> Time
     } else {
         model::forward::columns_forward(width, height, picture, &mut avg, &mut residual);
     }
+    (sizes, plain_sizes, avg, residual)
+}
+
+/// The inverse of that squeeze.
+fn tile(horizontal: bool, size: Size, picture: &[i32], budget: Duration) -> Times {
+    let (sizes, plain_sizes, avg, residual) = halves(horizontal, size, picture);
     let ours = |out: &mut [i32], _: &mut [i32]| {
         squeeze::tile(&sizes, &avg, &residual, &[], &[], out).expect("accepted");
     };
@@ -161,7 +175,12 @@ fn tile(horizontal: bool, size: Size, picture: &[i32], budget: Duration) -> Time
         let answer = model::tile::tile(&plain_sizes, &avg, &residual, &[], &[], out);
         assert_eq!(answer, 0);
     };
-    race(picture, picture, ours, plain, None, budget)
+    let before = before::TILE.map(|tile| {
+        let (sizes, avg, residual) = (&sizes, &avg, &residual);
+        move |out: &mut [i32], _: &mut [i32]| tile(sizes, avg, residual, out)
+    });
+    let before = before.as_ref().map(|tile| tile as &Before);
+    race(picture, picture, ours, plain, before, budget)
 }
 
 fn rebuild(record: &[u8], picture: &[i32], budget: Duration) -> Times {

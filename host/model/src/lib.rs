@@ -9,6 +9,7 @@ pub mod forward;
 pub mod layout;
 pub mod list;
 pub mod listing;
+pub mod marks;
 pub mod origins;
 pub mod pair;
 pub mod plan;

@@ -5,36 +5,111 @@ use crate::forward::{columns_forward, rows_forward};
 use crate::list::{total, Channel, Step};
 use crate::plan::Plan;
 use crate::squeeze::{columns_back, rows_back};
-use crate::{record, refusal};
+use crate::{marks, record, refusal};
 
 /// Rebuilds the picture of a pyramid: 0, or a refusal's number and all slices
 /// as they were.
 pub fn rebuild(bytes: &[u8], pyramid: &[i32], picture: &mut [i32], work: &mut [i32]) -> u32 {
-    let plan = match judge(bytes, [pyramid.len(), picture.len(), work.len()]) {
+    match judge(bytes, [pyramid.len(), picture.len(), work.len()]) {
+        Ok(plan) => back(&plan, pyramid, picture, work, |_, _, _| {}),
+        Err(number) => return number,
+    }
+    0
+}
+
+/// The same, and whether some step was marked over the first number of `mark`, which
+/// has one at least.
+pub fn rebuild_marked(
+    bytes: &[u8],
+    pyramid: &[i32],
+    picture: &mut [i32],
+    work: &mut [i32],
+    mark: &mut [u32],
+) -> u32 {
+    let lengths = [pyramid.len(), picture.len(), work.len()];
+    let plan = match judge_marked(bytes, lengths, mark) {
         Ok(plan) => plan,
         Err(number) => return number,
     };
-    picture.copy_from_slice(pyramid);
-    for (step, list) in plan.steps.iter().zip(&plan.lists).rev() {
-        step_back(list, step, picture, work);
-    }
-    work.fill(0);
+    let mut marked = false;
+    back(&plan, pyramid, picture, work, |list, step, samples| {
+        marked = marked || marks::step_back(list, step, samples);
+    });
+    mark[0] = marked.into();
     0
 }
 
 /// Writes the pyramid of a picture: 0, or a refusal's number and all slices as
 /// they were.
 pub fn write(bytes: &[u8], picture: &[i32], pyramid: &mut [i32], work: &mut [i32]) -> u32 {
-    let plan = match judge(bytes, [picture.len(), pyramid.len(), work.len()]) {
+    match judge(bytes, [picture.len(), pyramid.len(), work.len()]) {
+        Ok(plan) => forward(&plan, picture, pyramid, work, |_, _, _| {}),
+        Err(number) => return number,
+    }
+    0
+}
+
+/// The same, and the mark as in rebuilding.
+pub fn write_marked(
+    bytes: &[u8],
+    picture: &[i32],
+    pyramid: &mut [i32],
+    work: &mut [i32],
+    mark: &mut [u32],
+) -> u32 {
+    let lengths = [picture.len(), pyramid.len(), work.len()];
+    let plan = match judge_marked(bytes, lengths, mark) {
         Ok(plan) => plan,
         Err(number) => return number,
     };
+    let mut marked = false;
+    forward(&plan, picture, pyramid, work, |list, step, samples| {
+        marked = marked || marks::step_forward(list, step, samples);
+    });
+    mark[0] = marked.into();
+    0
+}
+
+/// The accepted steps, last first. `meet` is given the list before each step, the step
+/// and the samples that it takes.
+fn back(
+    plan: &Plan,
+    pyramid: &[i32],
+    picture: &mut [i32],
+    work: &mut [i32],
+    mut meet: impl FnMut(&[Channel], &Step, &[i32]),
+) {
+    picture.copy_from_slice(pyramid);
+    for (step, list) in plan.steps.iter().zip(&plan.lists).rev() {
+        meet(list, step, picture);
+        step_back(list, step, picture, work);
+    }
+    work.fill(0);
+}
+
+/// The steps in order; `meet` as above.
+fn forward(
+    plan: &Plan,
+    picture: &[i32],
+    pyramid: &mut [i32],
+    work: &mut [i32],
+    mut meet: impl FnMut(&[Channel], &Step, &[i32]),
+) {
     pyramid.copy_from_slice(picture);
     for (step, list) in plan.steps.iter().zip(&plan.lists) {
+        meet(list, step, pyramid);
         step_forward(list, step, pyramid, work);
     }
     work.fill(0);
-    0
+}
+
+/// Questions 1 to 11, then 14 with the mark's slice among the others.
+fn judge_marked(bytes: &[u8], lengths: [usize; 3], mark: &[u32]) -> Result<Plan, u32> {
+    let plan = judge(bytes, lengths)?;
+    if mark.is_empty() {
+        return Err(refusal::LENGTH);
+    }
+    Ok(plan)
 }
 
 /// Questions 1 to 11, then 14.

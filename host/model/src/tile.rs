@@ -1,7 +1,7 @@
 //! The tile call: questions 5, 12 and 14, then the rule of the uncut squeeze.
 
 use crate::squeeze::{columns_back, rows_back};
-use crate::{refusal, MAX_SAMPLES, MAX_SIDE};
+use crate::{marks, refusal, MAX_SAMPLES, MAX_SIDE};
 
 /// Width and height of a rectangle.
 pub type Size = (usize, usize);
@@ -28,17 +28,9 @@ pub fn tile(
     prev: &[i32],
     out: &mut [i32],
 ) -> u32 {
-    let rectangles = [sizes.avg, sizes.residual, sizes.output];
-    if rectangles.iter().any(|&size| samples(size) > MAX_SAMPLES) {
-        return refusal::SAMPLES;
-    }
-    if !fits(sizes, next.len(), prev.len()) {
-        return refusal::TILE;
-    }
     let lengths = [avg.len(), residual.len(), out.len()];
-    let fit = |(&size, &length): (&Size, &usize)| samples(size) == length as u64;
-    if !rectangles.iter().zip(&lengths).all(fit) {
-        return refusal::LENGTH;
+    if let Err(number) = judge(sizes, [next.len(), prev.len()], lengths) {
+        return number;
     }
     let (width, height) = sizes.output;
     if sizes.horizontal {
@@ -47,6 +39,44 @@ pub fn tile(
         columns_back(width, height, avg, residual, next, prev, out);
     }
     0
+}
+
+/// The same, and its mark (document 02, A.3) over the first number of `mark`, which has
+/// one at least.
+pub fn tile_marked(
+    sizes: &Sizes,
+    avg: &[i32],
+    residual: &[i32],
+    next: &[i32],
+    prev: &[i32],
+    out: &mut [i32],
+    mark: &mut [u32],
+) -> u32 {
+    let lengths = [avg.len(), residual.len(), out.len()];
+    if let Err(number) = judge(sizes, [next.len(), prev.len()], lengths) {
+        return number;
+    }
+    let Some(mark) = mark.first_mut() else {
+        return refusal::LENGTH;
+    };
+    *mark = marks::tile_back(sizes, avg, residual, next, prev).into();
+    tile(sizes, avg, residual, next, prev, out)
+}
+
+/// Questions 5, 12 and 14, the last of averages, residuals and output.
+fn judge(sizes: &Sizes, lines: [usize; 2], lengths: [usize; 3]) -> Result<(), u32> {
+    let rectangles = [sizes.avg, sizes.residual, sizes.output];
+    if rectangles.iter().any(|&size| samples(size) > MAX_SAMPLES) {
+        return Err(refusal::SAMPLES);
+    }
+    if !fits(sizes, lines[0], lines[1]) {
+        return Err(refusal::TILE);
+    }
+    let fit = |(&size, &length): (&Size, &usize)| samples(size) == length as u64;
+    if !rectangles.iter().zip(&lengths).all(fit) {
+        return Err(refusal::LENGTH);
+    }
+    Ok(())
 }
 
 /// Samples of a rectangle; a product over 64 bits counts as the largest.

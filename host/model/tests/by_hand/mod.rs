@@ -1,11 +1,12 @@
 //! Document 02, A.11 by hand: how records and numbers are answered, and the default
-//! plans, under either version; and A.4 in `origins`. The model alone is tested with
-//! these rows, and the core beside it (`tests/versions.rs` and `tests/origins.rs` in the
-//! directory above).
+//! plans, under either version; A.3 in `marks` and A.4 in `origins`. The model alone is
+//! tested with these rows, and the core beside it (`tests/versions.rs`, `tests/marks.rs`
+//! and `tests/origins.rs` in the directory above).
 
 // Each of the tests uses some of it.
 #![allow(dead_code)]
 
+pub mod marks;
 pub mod origins;
 
 /// A record, its answer, and why.
