@@ -7,7 +7,7 @@ use native.Mathlib.Omega.{arith}
 use lib.Dec.{eqb}
 use lib.IntN.{ℤ}
 use lib.ListN.{length, get_or}
-use borrow.Author.Tests.{eqb-true, eqb-false, eq-eqb, ne_eqb, le-leb}
+use borrow.Author.Tests.{eqb-true, eqb-false, eq-eqb}
 use Rattle.record.specs.Records.{channels_of, steps_of}
 use Rattle.line.proofs.Marks.{no_outers, marked_domain}
 use Rattle.tile.specs.Call as Tile
@@ -19,22 +19,15 @@ use Rattle.runs.proofs.Untouched.{never_marks}
 use Rattle.runs.proofs.Witness.{witness}
 use Rattle.squeeze.specs.Entry.{answer, picture_of, pyramid_of}
 use Rattle.squeeze.specs.Marked.{with_mark, slice_after, mark_after, rebuild_mark}
+use Rattle.squeeze.proofs.WithMark.{with_room, slice_kept, mark_kept}
 use Rattle.claims.specs.Marks.{SameCall, Refused, InsideRun, UnmarkedIsStandard, WriterSame, OnlyTouched, InsideTile, Marks}
 use Rattle.claims.proofs.Demands.{picture_fills, pyramid_fills}
 
 -- ---- a call with a mark beside the one without
-with_room : (unmarked : ℕ) (mark : List ℕ) → 1 ≤ length mark → with_mark unmarked mark ≡ unmarked
-unfolding with_mark
-with_room unmarked mark h = by (eqb unmarked 0) refl
-  where
-    by : (b : Bool) → eqb unmarked 0 ≡ b → with_mark unmarked mark ≡ unmarked
-    by true e = let z = eqb-true unmarked 0 e in rw (e, le-leb 1 (length mark) h) (sym z)
-    by false e = rw e refl
-
 same_call : (unmarked : ℕ) (mark : List ℕ) → 1 ≤ length mark → SameCall unmarked mark
 unfolding slice_after mark_after
 same_call unmarked mark h =
-    let w = with_room unmarked mark h in
+    let w = sym (with_room unmarked mark (λ z. omega arith)) in
     record {
       answers = w;
       slices = λ before after k. by before after k (eqb unmarked 0) refl w;
@@ -47,10 +40,12 @@ same_call unmarked mark h =
     by before after k false e w = rw (w, e) (sym (k (λ z. eqb-false unmarked 0 e z)))
 
 refused : (unmarked : ℕ) (mark : List ℕ) → (with_mark unmarked mark ≡ 0 → ⊥) → Refused unmarked mark
-unfolding slice_after mark_after
 refused unmarked mark h =
-    let n = ne_eqb (with_mark unmarked mark) 0 h in
-    record { slices = λ before after. rw n refl; mark_stays = λ marked. rw n refl }
+    let a = with_mark unmarked mark in
+    record {
+      slices = λ before after. sym (slice_kept unmarked a mark refl h before after);
+      mark_stays = λ marked. sym (mark_kept unmarked a mark refl h marked);
+    }
 
 -- an accepted call with a mark is one without
 accepted : (unmarked : ℕ) (mark : List ℕ) → with_mark unmarked mark ≡ 0 → unmarked ≡ 0
