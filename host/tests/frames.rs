@@ -12,7 +12,7 @@ use std::process::Command;
 const BOUND: usize = 64 << 10;
 
 /// The functions of the C library that the archive calls; each takes little.
-const OUTSIDE: [&str; 3] = ["memcpy", "memmove", "memset"];
+const OUTSIDE: [&str; 2] = ["memcpy", "memset"];
 
 /// Bytes that a function takes itself, and the functions that it calls.
 #[derive(Default)]

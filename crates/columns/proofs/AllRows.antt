@@ -1,6 +1,6 @@
 -- A vertical squeeze from its parts: the averages copied where there is no pair; else the row before the first pair copied in, the ordinary pairs
 -- of rows and the end of the lines put together (proofs/Pairs.antt of the crate line). Assumes nothing.
-use mathlib.Core.Path.{◌≡◌, refl, sym, ap, ◌∙◌}
+use mathlib.Core.Path.{◌≡◌, refl, sym, ◌∙◌}
 use mathlib.Core.Bool.{Bool, false, ◌&&◌, ◌||◌}
 use mathlib.Core.List.{List}
 use Prim.Native.Nat.{ℕ, ◌+◌, ◌*◌, ◌/◌, ◌%◌, ◌<◌, ◌≤◌}
@@ -9,13 +9,13 @@ use native.Mathlib.Nat.{mul-le-mul_right}
 use lib.IntN.{ℤ, pos}
 use lib.ListN.{length, get_or, take, drop}
 use Rattle.range.specs.Range.{some_outside}
-use Rattle.range.proofs.Slices.{none_outside}
 use Rattle.line.specs.Line.{before}
 use Rattle.line.specs.Uncut.{Squeeze, squeeze, Fitting, line_of, uncut}
 use Rattle.line.specs.Pairs.{lines_of, Ordinary, Ended}
 use Rattle.line.proofs.Places.{line_room, position_room, place_back}
 use Rattle.line.proofs.Lines.{before_first}
-use Rattle.line.proofs.Pairs.{put_together, copied}
+use Rattle.line.proofs.Pairs.{put_together, averages_are_all}
+use Rattle.line.proofs.IntoMarks.{unpaired_marked}
 use Rattle.columns.specs.Rows.{row_before}
 use Rattle.columns.proofs.OuterRows.{before_length, before_at}
 use Rattle.columns.proofs.Marks.{same_front, all_marked}
@@ -50,7 +50,7 @@ module _ {w m n : ℕ} {avg res next prev : List ℤ} (fitting : Fitting (squeez
           rw z at long ∙ sym fitting.avg_length
 
       pub averages_alone : avg ≡ uncut s
-      averages_alone = copied fitting none (sym averages_long ∙ long) (λ k hk h. refl)
+      averages_alone = averages_are_all fitting none
 
     -- ---- pairs, the last of which is i
     module _ (i : ℕ) (last : i + 1 ≡ n) where
@@ -88,6 +88,4 @@ module _ {w m n : ℕ} {avg res next prev : List ℤ} (fitting : Fitting (squeez
   -- without a pair there is no residual
   pub averages_marked : (b : Bool) {told : Bool} → n ≡ 0 → avg ≡ uncut s → told ≡ (b && some_outside avg)
       → told ≡ (b && (some_outside res || some_outside (uncut s)))
-  averages_marked b none u e =
-      let l : length res ≡ 0 = fitting.res_length ∙ ap (λ (x : ℕ). w * x) none ∙ omega arith in
-      rw (none_outside res (λ i h. absurd (omega arith)), ← u) e
+  averages_marked b none u e = unpaired_marked b s fitting none e

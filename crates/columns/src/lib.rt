@@ -56,7 +56,7 @@ fn store(out: &mut [i32], at: usize, b: [i32; 8])
     requires { at + 8 ≤ length out.old }
     ensures { out.new ≡ paste out.old at b (length b) }
 {
-    out[at..at + 8].copy_from_slice(&b);
+    buffer::copy(&b, &mut out[at..at + 8]);
 }
 
 // Two rows of output at `to` by eights, with the row before them at `from`;
@@ -197,7 +197,7 @@ fn last_rows<M: Marking>(s: &Squeezed<'_>, w: usize, from: usize, out: &mut [i32
         a + a,
     );
     if n < m {
-        out[e + e..].copy_from_slice(&avg[e..]);
+        buffer::copy(&avg[e..], &mut out[e + e..]);
         outside | M::some_outside(&avg[e..])
     } else {
         outside
@@ -212,10 +212,10 @@ fn unsqueeze_fitting<M: Marking>(s: &Squeezed<'_>, w: usize, out: &mut [i32]) ->
 {
     let n = s.residuals;
     if n == 0 {
-        out.copy_from_slice(s.avg);
+        buffer::copy(s.avg, out);
         return M::some_outside(s.avg);
     }
-    out[w..w + w].copy_from_slice(row_before(s.prev, s.avg, w));
+    buffer::copy(row_before(s.prev, s.avg, w), &mut out[w..w + w]);
     let pairs = ordinary_pairs::<M>(s.avg, s.res, n - 1, w, out);
     pairs.outside | last_rows::<M>(s, w, pairs.from, out)
 }

@@ -226,7 +226,7 @@ fn next_first(size: usize, i: usize) -> usize
 impl Rows<'_> {
     // All lines, and whether a sample of theirs or a residual lies outside the plain
     // range; those of one sample are tails alone.
-    #[tactic(auto, using(crate::proofs::Entries::row_room, crate::proofs::Entries::halves, crate::proofs::Fitted::tails_alone, crate::proofs::Fitted::no_residuals, crate::proofs::Fitted::averages_all, crate::proofs::Fitted::residuals_all))]
+    #[tactic(auto, using(crate::proofs::Entries::row_room, crate::proofs::Entries::halves, crate::proofs::Fitted::tails_alone, crate::proofs::Fitted::no_residuals, crate::proofs::Fitted::averages_all, crate::proofs::Fitted::residuals_all, buffer::proofs::Overwritten::copied_all))]
     fn squeeze_along<M: Marking>(&self, averages: &mut [i32], residuals: &mut [i32]) -> bool
         requires { (length averages.old ≡ self.now.count * average_count self.now.width) × (length residuals.old ≡ self.now.count * residual_count self.now.width) }
         ensures made { averages.new ≡ averages_of true self.now.count self.now.width self.now.samples.now }
@@ -234,7 +234,7 @@ impl Rows<'_> {
         ensures told { result ≡ (M.marks && (some_outside residuals.new || some_outside self.now.samples.now)) }
     {
         if self.width < 2 {
-            averages.copy_from_slice(self.samples);
+            buffer::copy(self.samples, averages);
             return M::some_outside(self.samples);
         }
         let rest = self.width / 2;
@@ -349,7 +349,7 @@ impl Rows<'_> {
         let n = self.count / 2;
         if n + n < self.count {
             let tails = self.row(n + n);
-            averages[n * self.width..].copy_from_slice(tails);
+            buffer::copy(tails, &mut averages[n * self.width..]);
             return outside | M::some_outside(tails);
         }
         outside

@@ -1,9 +1,9 @@
 -- The mark of a call that writes a squeeze into a slice (`marked_into` of specs/Marks.antt): the squeeze's where sizes fit, and none where they do not,
 -- or where the slice has no sample. `marks` is whether the call tells at all. Assumes nothing.
-use mathlib.Core.Path.{◌≡◌, refl, sym}
+use mathlib.Core.Path.{◌≡◌, refl, sym, ap, ◌∙◌}
 use mathlib.Core.Bool.{Bool, true, false, ◌||◌, ◌&&◌}
 use mathlib.Core.List.{List}
-use Prim.Native.Nat.{◌*◌, ◌≤◌}
+use Prim.Native.Nat.{ℕ, ◌*◌, ◌≤◌}
 use native.Mathlib.Omega.{arith}
 use native.Mathlib.Nat.{mul-le-mul_right}
 use borrow.Author.Tests.{le-ltb}
@@ -11,14 +11,23 @@ use lib.IntN.{ℤ}
 use lib.ListN.{length}
 use Rattle.range.specs.Range.{some_outside}
 use Rattle.range.proofs.Some.{both_false, none}
+use Rattle.range.proofs.Slices.{none_outside}
 use Rattle.line.specs.Line.{Line}
-use Rattle.line.specs.Uncut.{Squeeze, line_of, size, uncut}
+use Rattle.line.specs.Uncut.{Squeeze, Fitting, line_of, size, uncut}
 use Rattle.line.specs.Forward.{Samples}
 use Rattle.line.specs.Into.{fits}
 use Rattle.line.specs.Marks.{pair_at_marked, copied_marked, line_marked, squeeze_marked, marked_into, outers_outside}
 use Rattle.line.proofs.Outputs.{line_averages, line_residuals}
 use Rattle.line.proofs.Into.{fitted}
+use Rattle.line.proofs.Pairs.{averages_are_all}
 use Rattle.line.proofs.Marks.{marked_by_samples}
+
+-- without a pair there is no residual, and the output is the averages
+pub unpaired_marked : (marks : Bool) (s : Squeeze) {told : Bool} → Fitting s → s.residuals ≡ 0 → told ≡ (marks && some_outside s.avg)
+    → told ≡ (marks && (some_outside s.res || some_outside (uncut s)))
+unpaired_marked marks s f none e =
+    let l : length s.res ≡ 0 = f.res_length ∙ ap (λ (x : ℕ). s.lines * x) none ∙ omega arith in
+    rw (none_outside s.res (λ i h. absurd (omega arith)), ← averages_are_all f none) e
 
 -- a line of nothing
 empty_unmarked : (l : Line) → l.averages ≡ 0 → l.residuals ≡ 0 → line_marked l ≡ false

@@ -278,3 +278,9 @@ copied {s} {new} fitting none room on =
           let y : 0 + 0 ≡ 0 = omega arith in
           rw z (rw y (on k hk (omega arith)) ∙ sym (sample_tail (line_of s k) 0 (omega arith)));
     })
+
+-- so they are all of the output, in either direction
+pub averages_are_all : {s : Squeeze} → Fitting s → s.residuals ≡ 0 → s.avg ≡ uncut s
+averages_are_all {s} fitting none =
+    let z : s.averages + s.residuals ≡ s.averages = omega (arith, none) in
+    copied fitting none (rw z fitting.avg_length) (λ k hk h. rw z refl)

@@ -1,12 +1,13 @@
 -- `last_rows` meets its contract: the last pair of rows, and a row of tails after it, are the end of the lines (proofs/LastRows.antt).
 -- Assumes nothing.
-use mathlib.Core.Path.{◌≡◌, ◌∙◌}
+use mathlib.Core.Path.{◌≡◌, sym, ◌∙◌}
 use mathlib.Core.Bool.{false}
 use mathlib.Core.List.{List, []}
 use Prim.Native.Nat.{ℕ, ◌+◌, ◌-◌, ◌<◌}
 use native.Mathlib.Omega.{arith}
 use lib.IntN.{ℤ}
 use lib.ListN.{length, drop, length-drop}
+use Rattle.buffer.proofs.Overwritten.{copied_all}
 use Rattle.line.specs.Uncut.{squeeze, Fitting}
 use Rattle.columns.proofs.OuterRows.{part_rest}
 use Rattle.columns.proofs.Pastes.{put_in}
@@ -35,14 +36,6 @@ row_pair-outside-requires g c =
     rw (p.1, c.row_after.ensures)
     (last_asked c.requires.0 (s.residuals - 1) (length s.res.now - c.args.w) (counted s.residuals c.requires.1) p.0 c.requires.3)
 
-pub copy_from_slice-requires : goal.copy_from_slice-requires
-copy_from_slice-requires g c =
-    let s = c.args.s.now in
-    let r = length s.res.now in
-    let mid = c.row_pair-outside.new.out in
-    rw (part_rest mid (r + r), part_rest s.avg.now r)
-    (length-drop (r + r) mid ∙ tail_left c.requires.0 c.if-n-m.true (c.row_pair-outside.ensures.0.long ∙ c.requires.2))
-
 pub returns-then-n-m : goal.returns-then-n-m
 returns-then-n-m g c =
     let s = c.args.s.now in
@@ -55,7 +48,8 @@ returns-then-n-m g c =
     let mid = c.row_pair-outside.new.out in
     let long = c.row_pair-outside.ensures.0.long ∙ c.requires.2 in
     let made = rw (p.1, c.row_after.ensures) at c.row_pair-outside.ensures in
-    rw (c.copy_from_slice.ensures.after, part_rest s.avg.now r, put_in mid (r + r) (length mid - (r + r)) (drop r s.avg.now) (tail_left f c.if-n-m.true long)) (
+    let alike : length (drop r s.avg.now) ≡ length (drop (r + r) mid) = sym (length-drop (r + r) mid ∙ tail_left f c.if-n-m.true long) in
+    rw (c.copy.ensures, part_rest s.avg.now r, part_rest mid (r + r), copied_all (drop r s.avg.now) (drop (r + r) mid) alike, put_in mid (r + r) (length mid - (r + r)) (drop r s.avg.now) (tail_left f c.if-n-m.true long)) (
       λ prev. ended_odd f i a last p.0 made.0 prev c.if-n-m.true long,
       odd_marked f i a last p.0 g.M.Marking.marks _ long made.1 c.if-n-m.true (rw (part_rest s.avg.now r) at c.some_outside.ensures),
     )

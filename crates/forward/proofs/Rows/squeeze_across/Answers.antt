@@ -5,6 +5,8 @@ use Prim.Native.Nat.{ℕ, ◌+◌, ◌-◌, ◌*◌, ◌/◌}
 use native.Mathlib.Omega.{arith}
 use native.Mathlib.Nat.{add-mul, mul_comm}
 use lib.ListN.{length}
+use Rattle.buffer.proofs.Overwritten.{copied_all}
+use Rattle.line.proofs.Outputs.{part_length}
 use Rattle.line.specs.Forward.{average_count, residual_count}
 use Rattle.forward.specs.Rows.{average_entry}
 use Rattle.forward.proofs.Filled.{filled_part, lent_length}
@@ -21,12 +23,16 @@ returns-then-n-self-clause-made g c =
     let m : r.width * average_count r.count ≡ n * r.width + r.width = rw k (omega (arith, mul_comm r.width (n + 1), add-mul n 1 r.width)) in
     let f = average_entry false r.width r.count r.samples.now in
     let old = c.pairs_across-outside.new.averages in
-    let tails = c.copy_from_slice.new.self in
-    let t : length tails ≡ r.width = rw c.copy_from_slice.ensures.after c.row-tails.ensures.wide in
+    let place = n * r.width in
+    let tails = c.copy.new.to in
+    let wide : length c.row-tails.result.now ≡ r.width = c.row-tails.ensures.wide in
+    let room = part_length place (length old - place) old (omega (arith, m)) in
+    let e : tails ≡ c.row-tails.result.now = c.copy.ensures ∙ copied_all c.row-tails.result.now _ (omega (arith, wide, room, m)) in
+    let t : length tails ≡ r.width = rw e wide in
     averages_all false r.width r.count r.samples.now _
     (lent_length (n * r.width) (length old - n * r.width) old tails (omega (arith, m)) (omega (arith, m)) ∙ omega arith)
     (filled_part f (n * r.width) _ r.width _ old tails (omega (arith, m)) (omega (arith, t))
-    (λ x l. rw (c.copy_from_slice.ensures.after, c.row-tails.ensures.value) (row_tail r.count r.width r.samples.now n x (omega (arith, c.if-n-self.true)) l))
+    (λ x l. rw (e, c.row-tails.ensures.value) (row_tail r.count r.width r.samples.now n x (omega (arith, c.if-n-self.true)) l))
     c.pairs_across-outside.ensures.made m)
 
 -- as many residuals as pairs, and the samples of these
