@@ -1,5 +1,5 @@
 -- The mark of rows, by their parts (`rows_outside` of specs/Parts.antt): none of no row (`rows_none`), what was seen and the next rows put together by
--- `or` (`rows_more`), and all rows with the outer lines (`rows_marked`). Assumes nothing.
+-- `or` (`rows_more`), all rows (`rows_seen`), and the outer lines with them (`rows_marked`). Assumes nothing.
 use mathlib.Core.Path.{◌≡◌, refl, sym, ap, ◌∙◌}
 use mathlib.Core.Bool.{Bool, true, false, ◌||◌, ◌&&◌}
 use mathlib.Core.List.{List}
@@ -9,9 +9,10 @@ use native.Mathlib.Nat.{mul-le-mul_right}
 use lib.IntN.{ℤ}
 use lib.ListN.{length, take, drop}
 use lib.Seq.{take-add, drop-drop, take_all}
-use Rattle.std.proofs.Math.Bool.{and-or_distrib_left, or_assoc}
+use Rattle.std.proofs.Math.Bool.{and-or_distrib_left}
 use Rattle.range.specs.Range.{some_outside}
 use Rattle.range.proofs.Slices.{one_after_other}
+use Rattle.range.proofs.Told.{one_behind}
 use Rattle.line.specs.Uncut.{Squeeze, Fitting, size, uncut}
 use Rattle.line.specs.Marks.{outers_outside}
 use Rattle.line.specs.Squeezed.{squeeze_of}
@@ -87,10 +88,16 @@ rows_all s f =
     let y : 0 * size s ≡ 0 = omega arith in
     rw (z, y, whole_part s.res (s.lines * s.residuals) f.res_length, whole_part (uncut s) (s.lines * size s) (uncut_length s)) refl
 
--- the eights, the single rows and the outer lines
+-- the eights and the single rows
+pub rows_seen : (m : Bool) (s : Squeeze) (done : ℕ) {eights singles : Bool} → Fitting s → done ≤ s.lines
+    → eights ≡ (m && rows_outside s 0 done) → singles ≡ (m && rows_outside s done s.lines)
+    → (eights || singles) ≡ (m && (some_outside s.res || some_outside (uncut s)))
+rows_seen m s done f h e g =
+    rw (e, g, ← and-or_distrib_left m (rows_outside s 0 done) (rows_outside s done s.lines), parts_more s 0 done s.lines (omega arith) h, rows_all s f) refl
+
+-- and the outer lines
 pub rows_marked : (m : Bool) (s : Squeeze) (done : ℕ) {eights singles outers : Bool} → Fitting s → done ≤ s.lines
     → eights ≡ (m && rows_outside s 0 done) → singles ≡ (m && rows_outside s done s.lines) → outers ≡ (m && outers_outside s)
     → ((eights || singles) || outers) ≡ (m && (some_outside s.res || (some_outside (uncut s) || outers_outside s)))
 rows_marked m s done f h e g o =
-    rw (e, g, o, ← and-or_distrib_left m (rows_outside s 0 done) (rows_outside s done s.lines), parts_more s 0 done s.lines (omega arith) h, rows_all s f)
-    (sym (and-or_distrib_left m (some_outside s.res || some_outside (uncut s)) (outers_outside s)) ∙ ap (λ (x : Bool). m && x) (or_assoc (some_outside s.res) (some_outside (uncut s)) (outers_outside s)))
+    rw (rows_seen m s done f h e g, o) (one_behind m (some_outside s.res) (some_outside (uncut s)) (outers_outside s))

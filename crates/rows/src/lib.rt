@@ -95,6 +95,20 @@ fn rows_singly<M: Marking>(s: &Squeezed<'_>, lines: usize, from: usize, out: &mu
     outside
 }
 
+// The rows of a squeeze whose sizes fit, with a sample or more; whether a residual or an
+// output lies outside the range. Rows of one sample are their averages, copied at once.
+fn unsqueeze_fitting<M: Marking>(s: &Squeezed<'_>, lines: usize, out: &mut [i32]) -> bool
+    requires { Fitting (squeeze_of true lines s.now) × (0 < s.now.averages) × (length out.old ≡ lines * (s.now.averages + s.now.residuals)) }
+    ensures { (out.new ≡ uncut (squeeze_of true lines s.now)) × (result ≡ (M.marks && (some_outside s.now.res.now || some_outside (uncut (squeeze_of true lines s.now))))) }
+{
+    if s.residuals == 0 {
+        buffer::copy(s.avg, out);
+        return M::some_outside(s.avg);
+    }
+    let (done, eights) = rows_by_eight::<M>(s, lines, out);
+    eights | rows_singly::<M>(s, lines, done, out)
+}
+
 // The output of a horizontal squeeze of so many rows, and its mark.
 pub fn unsqueeze_rows<M: Marking>(s: &Squeezed<'_>, lines: usize, out: &mut [i32]) -> bool
     ensures { (out.new ≡ uncut_into (squeeze_of true lines s.now) out.old) × (result ≡ (M.marks && marked_into (squeeze_of true lines s.now) out.old)) }
@@ -106,7 +120,5 @@ pub fn unsqueeze_rows<M: Marking>(s: &Squeezed<'_>, lines: usize, out: &mut [i32
         return false;
     }
     M::read_samples(s.avg);
-    let (done, eights) = rows_by_eight::<M>(s, lines, out);
-    let singles = rows_singly::<M>(s, lines, done, out);
-    eights | singles | s.outers_outside::<M>()
+    unsqueeze_fitting::<M>(s, lines, out) | s.outers_outside::<M>()
 }
