@@ -1,6 +1,6 @@
 -- Where the samples of a list's channels lie while the steps of a plan are taken: a channel has its home, a part of a slice as long as the picture,
 -- and a step divides the home between average and residual. The places are kept in an array, filled up to a count. Definitions only.
-use Rattle.std.specs.Prelude.{Bool, true, false, cond, ◌&&◌, List, [], ◌∷◌, ℕ, ◌+◌, ◌-◌, ◌*◌, min, leb, ltb, get_or}
+use Rattle.std.specs.Prelude.{Bool, true, false, cond, ◌&&◌, List, [], ◌∷◌, ℕ, ◌+◌, ◌-◌, ◌*◌, min, eqb, leb, ltb, get_or}
 use Rattle.numbers.specs.Numbers.{max_samples}
 use Rattle.channel.specs.declared.Channel.{Channel}
 use Rattle.channel.specs.Channel.{samples}
@@ -42,6 +42,13 @@ is_odd Even = false
 -- the slot of what a step makes of a channel
 unfoldable pub turned : Slot → Slot
 turned slot = cond (is_odd slot) even odd
+
+-- slots by their numbers, as any array may hold them: what is neither 0 nor 1 is turned as 2 is
+abbrev pub slot_of : ℕ → Slot
+slot_of n = cond (eqb n 0) unmade (cond (eqb n 1) odd even)
+
+abbrev pub turned_number : ℕ → ℕ
+turned_number n = cond (eqb n 1) 2 1
 
 -- ---- homes
 -- n behind a home, inside the longest slice

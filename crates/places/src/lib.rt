@@ -25,6 +25,20 @@ pub enum Slot {
 }
 
 impl Slot {
+    // The slot that a number stands for, whatever it is: 0 what no step has made, 1 an odd
+    // number of steps, any other an even number. A step turns it as it turns the number.
+    #[tactic(auto, unfolding(crate::specs::Places::turned))]
+    pub fn of(number: u8) -> Self
+        ensures value { result ≡ Spec.slot_of number }
+        ensures turned { Spec.turned result ≡ Spec.slot_of (Spec.turned_number number) }
+    {
+        match number {
+            0 => Slot::Unmade,
+            1 => Slot::Odd,
+            _ => Slot::Even,
+        }
+    }
+
     // The slot of what a step makes of a channel.
     #[tactic(auto, unfolding(crate::specs::Places::turned))]
     pub fn turned(self) -> Self
@@ -109,7 +123,7 @@ impl Place {
 }
 
 // The places of a list's channels: the first `count` of the array. No `ArrayVec`: any
-// count may come in, and `step` says of the array past it that it stays.
+// count may come in, and `step` and `reset` say of the array past it that it stays.
 #[derive(Clone, Copy)]
 pub struct Places {
     pub count: usize,
@@ -151,11 +165,13 @@ impl Places {
         places
     }
 
-    // The same in place of these: no array is made or copied. The sides are read from
-    // the list's arrays, which is no longer than by `channel(k)`. The loop of `starts`
-    // again, which reads the sides of places that are made only here.
+    // The same in place of these, and what stands past them stays: no array is made or
+    // copied. The sides are read from the list's arrays, which is no longer than by
+    // `channel(k)`. The loop of `starts` again, which reads the sides of places that are made
+    // only here.
     pub fn reset(&mut self, list: &ChannelList)
-        ensures { Spec.places_in self.new ≡ Spec.places_from 0 (channels list.now) }
+        ensures placed { Spec.places_in self.new ≡ Spec.places_from 0 (channels list.now) }
+        ensures kept { drop self.new.count self.new.places ≡ drop self.new.count self.old.places }
     {
         let count = list.len();
         let mut at = 0;

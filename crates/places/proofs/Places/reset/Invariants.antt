@@ -1,4 +1,4 @@
--- `reset` meets its contract: the first k places are laid, and the next starts at `at`. Assumes nothing.
+-- `reset` meets its contract: the first k places are laid, the next starts at `at`, and those from k on stay. Assumes nothing.
 use Rattle.places.proofs.Homes.{new_place, new_area, Laying}
 use Rattle.places.proofs.Places.reset.Given as goal
 
