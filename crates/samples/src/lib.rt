@@ -93,16 +93,20 @@ pub fn fill(s: &mut [i32])
     }
 }
 
-// Whether a room reaches up to `to` and has its marks from `from` on up to there.
+// Whether a room reaches up to `to` and has its marks from `from` on up to there. A loop
+// over what is asked: `enumerate` and `skip` go through what stands before it too.
 pub fn kept(s: &[i32], from: usize, to: usize) -> bool
     ensures { Exactly result ((to ≤ length s.now) × Holds Rooms.mark s.now from to) }
 {
-    to <= s.len()
-        && s.iter()
-            .enumerate()
-            .take(to)
-            .skip(from)
-            .all(|(i, x)| *x == mark(i))
+    if s.len() < to {
+        return false;
+    }
+    for i in from..to {
+        if s[i] != mark(i) {
+            return false;
+        }
+    }
+    true
 }
 
 // Whether a room holds the n samples in `bytes`, zeros past their end, behind its first
