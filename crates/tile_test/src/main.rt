@@ -8,12 +8,11 @@
 
 ghost use Rattle.std.specs.Prelude.{◌<◌, ◌≤◌};
 
-use numbers::Refusal;
-use range::{Marked, Marking, Unmarked};
+use numbers::answer_of;
 use samples::{GUARD, decode, fill, holds, kept, word_at};
+use squeeze::tiles::{squeeze_tile, squeeze_tile_marked};
 use std::io;
 use std::io::Read;
-use tile::Sides;
 
 // The bytes of a case's head. The samples of the first four slices follow, and those
 // of the output where the answer is 0.
@@ -23,6 +22,9 @@ const HEAD: usize = 80;
 const CASE: usize = 8192;
 
 const ROOM: usize = 1024;
+
+// What the mark's slice holds before a call.
+const UNTOLD: u32 = 7;
 
 // The kinds of cases, in the order of `stdin`.
 const KINDS: [&str; 12] = [
@@ -41,29 +43,43 @@ const KINDS: [&str; 12] = [
 ];
 
 // The head of a case, in this order: numbers of four bytes each, sides of eight. The
-// answer is the number that the file has, 0 where the tile is accepted.
+// answer is the number that the file has, 0 where the tile is accepted; the direction is
+// any number, which the library reads.
 #[derive(Clone, Copy)]
 struct Head {
     answer: u32,
-    horizontal: bool,
-    avgs: Sides,
-    ress: Sides,
-    outs: Sides,
+    horizontal: u32,
+    // Width and height of averages, residuals and output.
+    sides: [usize; 6],
     // Of averages, residuals, next line, previous line and output.
     lengths: [u32; 5],
-    outside: bool,
+    mark: u32,
+}
+
+// The slices that a call reads.
+#[derive(Clone, Copy)]
+struct Given<'a> {
+    avg: &'a [i32],
+    res: &'a [i32],
+    next: &'a [i32],
+    prev: &'a [i32],
 }
 
 impl Head {
     fn read(bytes: &[u8; HEAD]) -> Head {
         Head {
             answer: word_at(bytes, 0),
-            horizontal: word_at(bytes, 4) != 0,
-            avgs: sides_at(bytes, 8),
-            ress: sides_at(bytes, 24),
-            outs: sides_at(bytes, 40),
+            horizontal: word_at(bytes, 4),
+            sides: [
+                number_at(bytes, 8),
+                number_at(bytes, 16),
+                number_at(bytes, 24),
+                number_at(bytes, 32),
+                number_at(bytes, 40),
+                number_at(bytes, 48),
+            ],
             lengths: [56, 60, 64, 68, 72].map(|at| word_at(bytes, at)),
-            outside: word_at(bytes, 76) != 0,
+            mark: word_at(bytes, 76),
         }
     }
 
@@ -75,24 +91,79 @@ impl Head {
         avg as usize + res as usize + next as usize + prev as usize
     }
 
-    // What the call tells. The four slices that are read stand one after the other; none
-    // where there are fewer samples.
-    fn call<M: Marking>(&self, given: &[i32], out: &mut [i32]) -> Option<Result<bool, Refusal>> {
+    // The four slices that are read, one after the other; none where there are fewer
+    // samples.
+    fn slices<'a>(&self, given: &'a [i32]) -> Option<Given<'a>> {
         let (avg, rest) = given.split_at_checked(self.lengths[0] as usize)?;
         let (res, rest) = rest.split_at_checked(self.lengths[1] as usize)?;
         let (next, rest) = rest.split_at_checked(self.lengths[2] as usize)?;
         let (prev, _) = rest.split_at_checked(self.lengths[3] as usize)?;
-        Some(tile::squeeze_tile::<M>(
+        Some(Given {
+            avg,
+            res,
+            next,
+            prev,
+        })
+    }
+
+    // The room filled, and its place for the output; none where there is none.
+    fn output<'a>(&self, room: &'a mut [i32]) -> Option<&'a mut [i32]> {
+        fill(room);
+        room.get_mut(GUARD..GUARD + self.lengths[4] as usize)
+    }
+
+    // What the call without a mark answers.
+    fn call(&self, given: &[i32], out: &mut [i32]) -> Option<u32> {
+        let Given {
+            avg,
+            res,
+            next,
+            prev,
+        } = self.slices(given)?;
+        let [aw, ah, rw, rh, ow, oh] = self.sides;
+        let told = squeeze_tile(
             self.horizontal,
-            self.avgs,
-            self.ress,
-            self.outs,
+            aw,
+            ah,
+            rw,
+            rh,
+            ow,
+            oh,
             avg,
             res,
             next,
             prev,
             out,
-        ))
+        );
+        Some(answer_of(told))
+    }
+
+    // What the call with a mark answers, and what the mark's slice holds after it.
+    fn call_marked(&self, given: &[i32], out: &mut [i32]) -> Option<(u32, u32)> {
+        let Given {
+            avg,
+            res,
+            next,
+            prev,
+        } = self.slices(given)?;
+        let [aw, ah, rw, rh, ow, oh] = self.sides;
+        let mut mark = [UNTOLD];
+        let told = squeeze_tile_marked(
+            self.horizontal,
+            aw,
+            ah,
+            rw,
+            rh,
+            ow,
+            oh,
+            avg,
+            res,
+            next,
+            prev,
+            out,
+            &mut mark,
+        );
+        Some((answer_of(told), mark[0]))
     }
 
     // Whether the room holds the wanted output, after a refusal none and what stood there,
@@ -105,24 +176,6 @@ impl Head {
             wanted.is_empty() & kept(room, 0, room.len())
         }
     }
-
-    // Whether the call gives its answer, this mark and its output; none where the slices
-    // have no room.
-    fn right<M: Marking>(
-        &self,
-        outside: bool,
-        given: &[i32],
-        wanted: &[u8],
-        room: &mut [i32],
-    ) -> Option<bool> {
-        fill(room);
-        let out = room.get_mut(GUARD..GUARD + self.lengths[4] as usize)?;
-        let told = match self.call::<M>(given, out)? {
-            Ok(mark) => (0, mark),
-            Err(refusal) => (refusal.number(), false),
-        };
-        Some((told == (self.answer, outside)) & self.left_right(wanted, room))
-    }
 }
 
 // The number of eight bytes that starts at `at`.
@@ -134,15 +187,6 @@ fn number_at(bytes: &[u8; HEAD], at: usize) -> usize
         .map_or(0, |number| usize::from_le_bytes(*number))
 }
 
-fn sides_at(bytes: &[u8; HEAD], at: usize) -> Sides
-    requires { at ≤ 60 }
-{
-    Sides {
-        width: number_at(bytes, at),
-        height: number_at(bytes, at + 8),
-    }
-}
-
 // Whether the calls of a case come out right; none where the case is cut short, or its
 // slices have no room.
 fn agrees(case: &[u8], slices: &mut [i32], room: &mut [i32]) -> Option<bool> {
@@ -152,8 +196,11 @@ fn agrees(case: &[u8], slices: &mut [i32], room: &mut [i32]) -> Option<bool> {
     let (given, wanted) = samples.split_at_checked(4 * n)?;
     let slices = slices.get_mut(..n)?;
     decode(given, slices);
-    let marked = head.right::<Marked>(head.outside, slices, wanted, room)?;
-    Some(marked & head.right::<Unmarked>(false, slices, wanted, room)?)
+    let mark = if head.answer == 0 { head.mark } else { UNTOLD };
+    let told = head.call_marked(slices, head.output(room)?)?;
+    let marked = (told == (head.answer, mark)) & head.left_right(wanted, room);
+    let answer = head.call(slices, head.output(room)?)?;
+    Some(marked & (answer == head.answer) & head.left_right(wanted, room))
 }
 
 // Replays the cases of the next kind and says how many are right.
