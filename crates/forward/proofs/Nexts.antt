@@ -30,11 +30,11 @@ average_same x f = rw (self_off x, wrap_id (pos 0) (record { sfits = omega arith
 
 -- ---- the positions, case by case
 module _ (size i : ℕ) where
-  first_after : i + i + 2 < size → next_first size i ≡ i + i + 2
+  pub first_after : i + i + 2 < size → next_first size i ≡ i + i + 2
   unfolding next_first
   first_after h = rw (lt-ltb (i + i + 2) size h)
 
-  first_own : size ≤ i + i + 2 → next_first size i ≡ i + i
+  pub first_own : size ≤ i + i + 2 → next_first size i ≡ i + i
   unfolding next_first
   first_own h = rw (le-ltb (i + i + 2) size h)
 

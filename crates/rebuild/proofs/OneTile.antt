@@ -26,14 +26,14 @@ use Rattle.rebuild.specs.Run.{sides_of, ChannelFits}
 
 -- a channel without a side above n
 module _ (h : Bool) (c : Channel) (n : ℕ) (w : c.width ≤ n) (t : c.height ≤ n) where
-  lines_small : lines_of h c ≤ n
+  pub lines_small : lines_of h c ≤ n
   lines_small = by h
     where
       by : (h : Bool) → lines_of h c ≤ n
       by true = omega arith
       by false = omega arith
 
-  size_small : size_of h c ≤ n
+  pub size_small : size_of h c ≤ n
   size_small = by h
     where
       by : (h : Bool) → size_of h c ≤ n
@@ -50,12 +50,12 @@ module _ (h : Bool) (c : Channel) where
       by false = refl
 
 -- ---- a place: its average and its residual have the sides of these
-average_bare : (h : Bool) (p : Place) → samples (average h (bare p)) ≡ area (average_place h p)
+pub average_bare : (h : Bool) (p : Place) → samples (average h (bare p)) ≡ area (average_place h p)
 unfolding samples average raised is_meta
 average_bare true p = refl
 average_bare false p = refl
 
-residual_bare : (h : Bool) (p : Place) → samples (residual h (bare p)) ≡ area (residual_place h p)
+pub residual_bare : (h : Bool) (p : Place) → samples (residual h (bare p)) ≡ area (residual_place h p)
 unfolding samples residual raised is_meta
 residual_bare true p = refl
 residual_bare false p = refl

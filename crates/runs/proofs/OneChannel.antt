@@ -138,8 +138,12 @@ module _ (h : Bool) where
   pub all_averages : (cs : List Channel) (ps : List (List ℤ)) → AllSamples ps → AllSamples (each (channel_averages h) cs ps)
   all_averages = each_samples (channel_averages h) (averages_samples h)
 
-  pub all_residuals : (cs : List Channel) (ps : List (List ℤ)) → AllSamples ps → AllSamples (each (channel_residuals h) cs ps)
-  all_residuals = each_samples (channel_residuals h) (λ c p f. residuals_samples h c p)
+  -- not by `each_samples`: the parts may hold any numbers
+  pub all_residuals : (cs : List Channel) (ps : List (List ℤ)) → AllSamples (each (channel_residuals h) cs ps)
+  all_residuals [] ps = All-nil Samples
+  all_residuals (c ∷ cs) [] = All-nil Samples
+  all_residuals (c ∷ cs) (p ∷ ps) =
+      All-cons Samples (channel_residuals h c p) (each (channel_residuals h) cs ps) (residuals_samples h c p) (all_residuals cs ps)
 
   pub all_back_lem : (cs : List Channel) (avgs ress : List (List ℤ)) → AllSamples avgs → AllSamples (all_back h cs avgs ress)
   all_back_lem [] avgs ress f = All-nil Samples

@@ -91,7 +91,7 @@ module _ (s : Step) (cs : List Channel) (inside : s.begin + s.number ≤ length 
           by true = drop_at pr pz s.number lr
           by false = take_at pz pr (behind s cs) lz
 
-      back_of : back_parts s cs (pb ++ (pa ++ joined s.inplace pr pz)) ≡ pb ++ (all_back s.horizontal (range s cs) pa pr ++ pz)
+      pub back_of : back_parts s cs (pb ++ (pa ++ joined s.inplace pr pz)) ≡ pb ++ (all_back s.horizontal (range s cs) pa pr ++ pz)
       unfolding back_parts
       back_of =
           let v = joined s.inplace pr pz in
@@ -216,7 +216,7 @@ module _ (s : Step) (cs : List Channel) (inside : s.begin + s.number ≤ length 
         let r = range s cs in
         rw forward_pieces
         (All-append Samples p.qb _ p.all_b
-        (All-append Samples qa _ (all_averages h r p.qr p.all_r) (joined_all s.inplace qs p.qz (all_residuals h r p.qr p.all_r) p.all_z)))
+        (All-append Samples qa _ (all_averages h r p.qr p.all_r) (joined_all s.inplace qs p.qz (all_residuals h r p.qr) p.all_z)))
 
     -- there and back
     back_forward : back_parts s cs (forward_parts s cs ps) ≡ ps

@@ -93,7 +93,7 @@ shaped_back (c ∷ cs) ds (p ∷ ps) h = shaped_back cs ds ps h.1
 all_of : (xs : List ℤ) → Samples xs → All Sample xs
 all_of xs f = All-from_get_or Sample xs (pos 0) f
 
-samples_append : (xs ys : List ℤ) → Samples xs → Samples ys → Samples (xs ++ ys)
+pub samples_append : (xs ys : List ℤ) → Samples xs → Samples ys → Samples (xs ++ ys)
 samples_append xs ys f g i h = All-append Sample xs ys (all_of xs f) (all_of ys g) i (pos 0) h
 
 pub parts_samples : (cs : List Channel) (xs : List ℤ) → Samples xs → AllSamples (parts cs xs)

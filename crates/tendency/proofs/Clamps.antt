@@ -41,7 +41,7 @@ minus_bit v f =
     let o = one_is_zero v in
     wrap_id (v -ℤ b) (in_range32 (v -ℤ b) (omega arith) (omega arith))
 
-same_clamp : (p v : ℤ) → Sample v → lt_z (p ⊕ p ⊕ lowest_bit v) v ≡ lt_z (p ⊕ p) (v ⊖ lowest_bit v)
+pub same_clamp : (p v : ℤ) → Sample v → lt_z (p ⊕ p ⊕ lowest_bit v) v ≡ lt_z (p ⊕ p) (v ⊖ lowest_bit v)
 same_clamp p v f =
     rw (even_plus (p ⊕ p) v (wrap_sample _) (omega (arith, residue-⊕ p p)), minus_bit v f)
     (same_test (p ⊕ p +ℤ lowest_bit v) v (p ⊕ p) (v -ℤ lowest_bit v)

@@ -30,7 +30,7 @@ and_none false = refl
 
 -- ---- the number that a call gets
 module _ (c : Call) where
-  five : areas_allowed c ≡ false → answer c ≡ 5
+  pub five : areas_allowed c ≡ false → answer c ≡ 5
   unfolding answer
   five e = rw e
 
@@ -38,11 +38,11 @@ module _ (c : Call) where
   unfolding answer
   thirteen e f = rw (e, f)
 
-  twelve : areas_allowed c ≡ true → sizes_fit c ≡ true → slices_fit c ≡ false → answer c ≡ 12
+  pub twelve : areas_allowed c ≡ true → sizes_fit c ≡ true → slices_fit c ≡ false → answer c ≡ 12
   unfolding answer
   twelve e f g = rw (e, f, g)
 
-  none : areas_allowed c ≡ true → sizes_fit c ≡ true → slices_fit c ≡ true → answer c ≡ 0
+  pub none : areas_allowed c ≡ true → sizes_fit c ≡ true → slices_fit c ≡ true → answer c ≡ 0
   unfolding answer
   none e f g = rw (e, f, g)
 

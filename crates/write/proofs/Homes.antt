@@ -74,7 +74,7 @@ module _ (p : Places) where
   unfolding Specs.areas_in
   areas_so few = let z : min p.count max_channels ≡ p.count = omega arith in ap (table areas 0) z
 
-  areas_sum : sum (table areas 0 p.count) ≡ sum (map area ps)
+  pub areas_sum : sum (table areas 0 p.count) ≡ sum (map area ps)
   unfolding Specs.places_in
   areas_sum = ap sum (sym (map_table area at 0 p.count))
 
